@@ -1,0 +1,140 @@
+# Reads what bench/run measured, prints the table and writes the file tsv. With ask=1 it only answers, by its exit
+# status, whether the best three rounds of everything agree: 0 or 1. The status is 2 if two forms differ in a check sum.
+#   5 fields: operation, waiters, priorities, form, instructions
+#   8 fields: operation, waiters, priorities, steps, nanoseconds of a step, check sum, form, place; for each round
+# The time of a form is that of the third best round, its mean over all places, at the shortest step of all rounds.
+#
+# SPDX-License-Identifier: Apache-2.0
+
+BEGIN {
+    FS = OFS = "\t"
+    noise = 0.02
+    row = "%-14s %7s  %-10s  %-18s %9s %12s %6s %7s  %s\n"
+}
+
+{ name = $1 FS $2 FS $3 }
+
+NF == 5 { instructions[name, $4] = $5 }
+
+NF == 8 {
+    if (!(name in sum)) {
+        sum[name] = $6
+        sum_of[name] = $7
+        case_name[++cases] = name
+    }
+    if (!($7 in known)) {
+        known[$7] = 1
+        form[++forms] = $7
+    }
+    if ($6 != sum[name]) {
+        differ = sum_of[name] " and " $7 " differ in what they wake: " $1 ", " $2 " waiters, " $3
+        exit
+    }
+    keep_three(name SUBSEP $7 SUBSEP $8, $4 + 0)
+    if (step == "" || $5 + 0 < step)
+        step = $5 + 0
+}
+
+function keep_three(k, steps) {
+    if (!(k in third))
+        first[k] = second[k] = third[k] = 1e9
+    if (steps < first[k]) {
+        third[k] = second[k]
+        second[k] = first[k]
+        first[k] = steps
+    } else if (steps < second[k]) {
+        third[k] = second[k]
+        second[k] = steps
+    } else if (steps < third[k]) {
+        third[k] = steps
+    }
+}
+
+# For each case and form: its time, and whether the best three rounds agree.
+function over_all_places(    k, part, of, places, best) {
+    for (k in third) {
+        split(k, part, SUBSEP)
+        of = part[1] SUBSEP part[2]
+        places[of]++
+        time[of] += third[k] * step
+        best[of] += first[k] * step
+    }
+    for (of in time) {
+        steady[of] = time[of] <= (1 + noise) * best[of]
+        time[of] /= places[of]
+    }
+}
+
+# The C form that takes the least time in this case: with all refusals, or bare.
+function best_c(name, bare,    i, f, found) {
+    for (i = 1; i <= forms; i++) {
+        f = form[i]
+        if (f ~ /^c-/ && (f ~ /-bare\//) == bare && (name, f) in time)
+            if (found == "" || time[name, f] < time[name, found])
+                found = f
+    }
+    return found
+}
+
+function judge(ratio, aim, of) {
+    if (ratio <= aim + 0.004) {
+        met++
+        return ""
+    }
+    if (ratio <= aim * (1 + noise)) {
+        near++
+        return sprintf("; above %.1f of %s by less than the noise", aim, of)
+    }
+    missed++
+    return sprintf("; MISSED: at most %.1f of %s", aim, of)
+}
+
+function print_row(name, f, checked, bare,    part, count, of_checked, of_bare, note) {
+    split(name, part, FS)
+    if (!((name, f) in time)) {
+        if (!((part[1], f) in lacking))
+            left_out = left_out "left out: " part[1] " by " f ", which has none\n"
+        lacking[part[1], f] = 1
+        return
+    }
+    count = (name, f) in instructions ? instructions[name, f] : "-"
+    of_checked = time[name, f] / time[name, checked]
+    of_bare = time[name, f] / time[name, bare]
+    if (f == "wq") {
+        note = "held against " checked " and " bare judge(of_checked, 1, "C")
+        if (part[2] == 0)
+            note = note judge(of_bare, 1.2, "bare C")
+    }
+    printf row, part[1], part[2], part[3], f, sprintf("%.2f", time[name, f]) (steady[name, f] ? " " : "~"), count,
+        sprintf("%.2f", of_checked), sprintf("%.2f", of_bare), note
+    print name, f, sprintf("%.3f", time[name, f]), count > tsv
+}
+
+END {
+    if (differ != "") {
+        print "bench: " differ > "/dev/stderr"
+        exit 2
+    }
+    over_all_places()
+    if (ask) {
+        for (of in steady)
+            if (!steady[of])
+                exit 1
+        exit 0
+    }
+
+    print "of C: the time, divided by that of the best C with the same refusals; of bare: of the best C without any"
+    print "~: the best three rounds are more than 2 % apart\n"
+    printf row, "operation", "waiters", "priorities", "form", "ns ", "instructions", "of C", "of bare", ""
+    print "operation", "waiters", "priorities", "form", "nanoseconds", "instructions" > tsv
+    for (c = 1; c <= cases; c++) {
+        checked = best_c(case_name[c], 0)
+        bare = best_c(case_name[c], 1)
+        for (i = 1; i <= forms; i++)
+            print_row(case_name[c], form[i], checked, bare)
+        print ""
+    }
+    printf "%s", left_out
+    if ("wq" in known)
+        printf "aims: %d met, %d missed by less than the noise, %d missed\n", met, near, missed
+}

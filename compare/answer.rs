@@ -1,0 +1,24 @@
+//! What both sides are asked, and what both answer.
+
+#[derive(Clone, Copy, Debug, PartialEq, Eq)]
+pub struct Caller {
+    pub id: u32,
+    pub priority: u32,
+}
+
+/// A code as in the C interface, and the woken threads: the id and the result of each.
+#[derive(Debug, PartialEq, Eq)]
+pub struct Answer {
+    pub code: i32,
+    pub woken: Vec<(u32, i32)>,
+}
+
+impl Answer {
+    pub fn code(code: i32) -> Self {
+        Answer { code, woken: Vec::new() }
+    }
+
+    pub fn woke(code: i32, id: u32, result: i32) -> Self {
+        Answer { code, woken: vec![(id, result)] }
+    }
+}

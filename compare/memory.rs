@@ -1,0 +1,246 @@
+//! Objects over any memory contents. Upstream has nothing here, so ours is held against the rules of the header:
+//! a malformed header is -22, refusals come in their fixed order and change no word, and a well-formed header
+//! over any entries does what it says.
+
+use crate::answer::{Answer, Caller};
+use crate::ours::{entry_of, Memory, BLOCKED, EBUSY, EINVAL, ENOMEM, RUNNING, WAITERS, WAITS};
+use crate::report::{Kind, Report, Tally};
+use crate::rng::Rng;
+use std::fmt::Debug;
+
+const MALFORMED: &str = "a malformed header: -22";
+const REFUSED: &str = "a well-formed header, a refusal in its order";
+const DONE: &str = "a well-formed header, done";
+
+const MEMORIES: usize = 20_000;
+const NUMBERS: [u32; 14] = [0, 0, 0, 0, 1, 2, 3, 5, 63, 64, 65, 1 << 31, u32::MAX - 1, u32::MAX];
+const LENGTHS: [u32; 12] = [0, 0, 1, 2, 3, 4, 17, 63, 64, 65, 1 << 31, u32::MAX];
+
+/// What a call is to do to an object of N header words.
+pub enum Change<const N: usize> {
+    Nothing,
+    /// These header words; the entries stay.
+    Head([u32; N]),
+    Joined(Caller),
+    Removed(u32),
+}
+
+pub struct Expected<const N: usize> {
+    pub answer: Answer,
+    pub change: Change<N>,
+}
+
+impl<const N: usize> Expected<N> {
+    pub fn refusal(code: i32) -> Self {
+        Expected { answer: Answer::code(code), change: Change::Nothing }
+    }
+
+    pub fn done(code: i32, change: Change<N>) -> Self {
+        Expected { answer: Answer::code(code), change }
+    }
+}
+
+/// The rules of an object of N header words, the last of which is the number of those that wait.
+pub trait Rules<const N: usize> {
+    type Call: Copy + Debug;
+
+    fn is_malformed(head: &[u32; N]) -> bool;
+    /// Whether the call looks at the header; one that makes the object does not.
+    fn looks(call: Self::Call) -> bool;
+    fn calls(rng: &mut Rng) -> Vec<Self::Call>;
+    /// What a call does that does not look at the header, or finds it well formed.
+    fn expected(memory: &Memory<N>, call: Self::Call) -> Expected<N>;
+    fn ask(memory: &mut Memory<N>, call: Self::Call) -> Result<Answer, String>;
+    /// What the functions that only read are to answer for a well-formed header.
+    fn numbers(head: &[u32; N]) -> Vec<i64>;
+    fn ask_numbers(memory: &Memory<N>) -> Vec<i64>;
+    fn audit(memory: &Memory<N>) -> bool;
+}
+
+fn priority_of(entry: u64) -> u32 {
+    (entry >> 32) as u32
+}
+
+pub fn id_of(entry: u64) -> u32 {
+    entry as u32
+}
+
+fn is_sorted(entries: &[u64]) -> bool {
+    entries.windows(2).all(|pair| priority_of(pair[0]) >= priority_of(pair[1]))
+}
+
+fn is_whole(entries: &[u64]) -> bool {
+    let repeats = |i: usize| entries[..i].iter().any(|&other| id_of(other) == id_of(entries[i]));
+    let in_range = entries.iter().all(|&entry| priority_of(entry) < 32);
+    in_range && is_sorted(entries) && !(0..entries.len()).any(repeats)
+}
+
+pub fn caller_refusal(caller: Caller, state: u32) -> Option<i32> {
+    if caller.priority > 31 {
+        Some(EINVAL)
+    } else if state == BLOCKED {
+        Some(EBUSY)
+    } else if state != RUNNING {
+        Some(EINVAL)
+    } else {
+        None
+    }
+}
+
+pub fn joins<const N: usize>(entries: &[u64], caller: Caller) -> Expected<N> {
+    if entries.iter().any(|&entry| id_of(entry) == caller.id) {
+        Expected::refusal(EBUSY)
+    } else if entries.len() == WAITERS {
+        Expected::refusal(ENOMEM)
+    } else {
+        Expected::done(WAITS, Change::Joined(caller))
+    }
+}
+
+pub fn wakes_all<const N: usize>(entries: &[u64], result: i32, room: usize, head: [u32; N]) -> Expected<N> {
+    if room < entries.len() {
+        return Expected::refusal(EINVAL);
+    }
+    let woken = entries.iter().rev().map(|&entry| (id_of(entry), result)).collect();
+    Expected { answer: Answer { code: entries.len() as i32, woken }, change: Change::Head(head) }
+}
+
+/// Whether `longer` is `shorter` with one such entry put in somewhere.
+fn has_one_more(longer: &[u64], shorter: &[u64], such: impl Fn(u64) -> bool) -> bool {
+    longer.len() == shorter.len() + 1
+        && (0..longer.len())
+            .any(|at| such(longer[at]) && longer[..at] == shorter[..at] && longer[at + 1..] == shorter[at..])
+}
+
+/// Where the entries are sorted, the new one is to stand behind all of equal or higher priority.
+fn stands_well(before: &[u64], after: &[u64], caller: Caller) -> bool {
+    let place = before.iter().filter(|&&entry| priority_of(entry) > caller.priority).count();
+    !is_sorted(before) || id_of(after[place]) == caller.id
+}
+
+fn changed_right<const N: usize>(before: &Memory<N>, after: &Memory<N>, change: &Change<N>) -> bool {
+    let waiting = |memory: &Memory<N>| memory.entry[..(memory.len() as usize).min(WAITERS)].to_vec();
+    let (old, new) = (waiting(before), waiting(after));
+    let numbers_stay = before.head[..N - 1] == after.head[..N - 1];
+    match *change {
+        Change::Nothing => before == after,
+        Change::Head(head) => after.head == head && after.entry == before.entry,
+        Change::Joined(caller) => {
+            let grown = has_one_more(&new, &old, |entry| entry == entry_of(caller));
+            numbers_stay && grown && stands_well(&old, &new, caller)
+        }
+        Change::Removed(id) => numbers_stay && has_one_more(&old, &new, |entry| id_of(entry) == id),
+    }
+}
+
+pub fn any_number(rng: &mut Rng) -> u32 {
+    rng.pick(&NUMBERS)
+}
+
+pub fn any_id(rng: &mut Rng) -> u32 {
+    let any = rng.number();
+    rng.pick(&[0, 1, 2, 3, 1 << 16, 1 << 31, u32::MAX, any])
+}
+
+pub fn any_caller(rng: &mut Rng) -> Caller {
+    let any = rng.below(32);
+    Caller { id: any_id(rng), priority: rng.pick(&[0, 1, 2, 31, 31, 32, u32::MAX, any]) }
+}
+
+pub fn any_state(rng: &mut Rng) -> u32 {
+    let any = rng.number();
+    rng.pick(&[1, 1, 1, 1, 0, 2, 3, 4, u32::MAX, any])
+}
+
+pub fn any_room(rng: &mut Rng) -> usize {
+    let any = rng.below(70);
+    rng.pick(&[0, 1, 2, 3, 16, 17, 63, 64, 65, any]) as usize
+}
+
+fn any_entries(rng: &mut Rng) -> [u64; WAITERS] {
+    let mut entries = [0; WAITERS];
+    let kind = rng.below(3);
+    for (i, entry) in entries.iter_mut().enumerate() {
+        *entry = match kind {
+            0 => rng.word(),
+            1 => u64::from(rng.below(34)) << 32 | u64::from(any_id(rng)),
+            _ => u64::from(rng.below(32)) << 32 | (i as u64 * 3),
+        };
+    }
+    if rng.below(2) == 0 {
+        entries.sort_unstable_by_key(|&entry| std::cmp::Reverse(priority_of(entry)));
+    }
+    entries
+}
+
+fn any_memory<const N: usize>(rng: &mut Rng) -> Memory<N> {
+    let mut head = [0; N];
+    head.fill_with(|| any_number(rng));
+    head[N - 1] = rng.pick(&LENGTHS);
+    Memory::new(head, any_entries(rng))
+}
+
+fn check_call<R: Rules<N>, const N: usize>(memory: &Memory<N>, call: R::Call) -> Result<Kind, String> {
+    let malformed = R::looks(call) && R::is_malformed(&memory.head);
+    let expected = if malformed { Expected::refusal(EINVAL) } else { R::expected(memory, call) };
+    let mut after = *memory;
+    let answer = R::ask(&mut after, call)?;
+    if answer != expected.answer {
+        return Err(format!("expected {:?}, ours {answer:?}", expected.answer));
+    }
+    if !after.guards_stand() || !changed_right(memory, &after, &expected.change) {
+        return Err(format!("answers {} as it should, and leaves:\n{}", answer.code, show(&after)));
+    }
+    Ok(Kind::Outside(match answer.code {
+        _ if malformed => MALFORMED,
+        code if code < 0 => REFUSED,
+        _ => DONE,
+    }))
+}
+
+fn check_numbers<R: Rules<N>, const N: usize>(memory: &Memory<N>) -> Result<Kind, String> {
+    let malformed = R::is_malformed(&memory.head);
+    let mut expected = R::numbers(&memory.head);
+    if malformed {
+        expected.fill(EINVAL.into());
+    }
+    let whole = !malformed && is_whole(&memory.entry[..memory.len() as usize]);
+    let (numbers, audit) = (R::ask_numbers(memory), R::audit(memory));
+    if numbers != expected || audit != whole {
+        return Err(format!("expected {expected:?}, audit {whole}; ours {numbers:?}, audit {audit}"));
+    }
+    Ok(Kind::Outside(if malformed { MALFORMED } else { DONE }))
+}
+
+fn show<const N: usize>(memory: &Memory<N>) -> String {
+    format!("  header {:?}, queue, hexadecimal:{}", memory.head, memory.show_queue())
+}
+
+fn checks<R: Rules<N>, const N: usize>(memory: &Memory<N>, rng: &mut Rng) -> Vec<(String, Result<Kind, String>)> {
+    let calls = R::calls(rng).into_iter();
+    let mut all: Vec<_> = calls.map(|call| (format!("{call:?}"), check_call::<R, N>(memory, call))).collect();
+    all.push(("numbers and audit".to_string(), check_numbers::<R, N>(memory)));
+    all
+}
+
+/// Goes on after a deviation, so that the one with the fewest entries is named.
+fn compare_all<R: Rules<N>, const N: usize>(rng: &mut Rng, tally: &mut Tally) -> Result<(), String> {
+    let mut smallest: Option<(u32, String)> = None;
+    for _ in 0..MEMORIES {
+        let memory = any_memory::<N>(rng);
+        for (what, outcome) in checks::<R, N>(&memory, rng) {
+            match outcome {
+                Ok(kind) => tally.count(kind),
+                Err(why) if smallest.as_ref().is_none_or(|(len, _)| memory.len() < *len) => {
+                    smallest = Some((memory.len(), format!("{}\n    {what}\n  {why}", show(&memory))));
+                }
+                Err(_) => {}
+            }
+        }
+    }
+    smallest.map_or(Ok(()), |(_, why)| Err(why))
+}
+
+pub fn compare<R: Rules<N>, const N: usize>(report: &mut Report, name: &'static str, seed: u64) {
+    report.run(name, &[MALFORMED, REFUSED, DONE], |tally| compare_all::<R, N>(&mut Rng::new(seed), tally));
+}

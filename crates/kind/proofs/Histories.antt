@@ -1,0 +1,197 @@
+-- Any sequence of events leaves an object of a lawful kind as it should be, and its queue in the order of arrival. Assumes nothing.
+use mathlib.Core.Path.{_≡_, refl, sym, ap, _∙_, subst}
+use mathlib.Core.Bool.{Bool, true, false, cond}
+use mathlib.Core.List.{List, [], _∷_, _++_, append-assoc, append-nil, map}
+use Prim.Native.Nat.{ℕ, zero, suc, _+_, _≤_, _<_}
+use native.Mathlib.Omega.{arith}
+use lib.Dec.{ltb, leb, eqb}
+use lib.IntN.{ℤ, pos, negsuc}
+use lib.ListN.{length}
+use borrow.Author.Tests.{ltb-true, eq-eqb, eqb-true}
+use Rattle.seq.specs.List.{any, has, chosen, All, Sorted, Sub, end, skip, have}
+use Rattle.seq.proofs.Order.{clash, length-insert, sorted-insert, all-insert, has-insert}
+use Rattle.seq.proofs.Sub.{sub-all, sub-trans, sub-append, sub-front, sub-length, sub-holds, sub-sorted, sub-has, others-sub, chosen-append, chosen-sub, chosen-insert}
+use Rattle.thread.specs.Priority.{maxPriority, valid}
+use Rattle.thread.specs.Caller.{callerCode}
+use Rattle.wait_queue.specs.Queue.{maxWaiters, entry, prio, ident, of, holds, joined, without, NoLower, Single, Well}
+use Rattle.wait_queue.specs.Turn.{Turn, refuse, parked, remove}
+use Rattle.wait_queue.proofs.Insertion.{prio-entry}
+use Rattle.wait_queue.proofs.Answers.{ident-entry}
+use Rattle.kind.specs.Verdict.{Verdict, deny, allow, keep, park, wake, left, gone}
+use Rattle.kind.specs.Kind.{Kind, Lawful, Sound, itself}
+use Rattle.kind.specs.Object.{Out, refused, Caller, anyone, thread, name, code, joins, carried, asked, call}
+use Rattle.kind.specs.History.{Object, Event, calls, asks, leaves, of-priority, happens, next, run, came, arrivals, Good, Lasting}
+use Rattle.kind.proofs.Picks.{any-map, left-sub, left-map}
+
+-- a queue within one that is as it should be
+single-sub : {l m : List ℕ} → Sub l m → Single m → Single l
+single-sub end s = tt
+single-sub (skip t) s = single-sub t (s .1)
+single-sub (have {x = x} t) s = (sub-has (of (ident x)) t (s .0), single-sub t (s .1))
+
+pub well-sub : {l m : List ℕ} → Sub l m → Well m → Well l
+well-sub t w =
+    record {
+      short = omega (arith, sub-length t, w .short);
+      sorted = sub-sorted NoLower t (w .sorted);
+      valid = sub-holds (λ x. prio x < maxPriority) t (w .valid);
+      single = single-sub t (w .single);
+    }
+
+-- one more in such a queue
+single-insert : (w : ℕ) (q : List ℕ) → holds (ident w) q ≡ false → Single q → Single (joined w q)
+single-insert w [] h s = (refl, tt)
+single-insert w (x ∷ q) h s = go (ltb (prio w) (prio x)) (eqb (ident x) (ident w)) refl h (λ k. single-insert w q k (s .1))
+  where
+    other : eqb (ident x) (ident w) ≡ false → eqb (ident w) (ident x) ≡ false
+    other f = twist (eqb (ident w) (ident x)) refl
+      where
+        twist : (b : Bool) → eqb (ident w) (ident x) ≡ b → eqb (ident w) (ident x) ≡ false
+        twist true z = clash (sym (eq-eqb (ident x) (ident w) (sym (eqb-true (ident w) (ident x) z))) ∙ f)
+        twist false z = z
+
+    go : (b a : Bool) → eqb (ident x) (ident w) ≡ a → cond a true (holds (ident w) q) ≡ false → (holds (ident w) q ≡ false → Single (joined w q))
+        → Single (cond b (w ∷ x ∷ q) (x ∷ joined w q))
+    go b true e g ih = clash g
+    go true false e g ih = (rw e g, s)
+    go false false e g ih = (has-insert prio (of (ident x)) w q ∙ rw (other e) (s .0), ih g)
+
+pub well-joined : (w : ℕ) (q : List ℕ) → Well q → holds (ident w) q ≡ false → length q < maxWaiters → prio w < maxPriority → Well (joined w q)
+well-joined w q g h l v =
+    record {
+      short = omega (arith, length-insert prio w q);
+      sorted = sorted-insert prio w q (g .sorted);
+      valid = all-insert prio (λ x. prio x < maxPriority) w q v (g .valid);
+      single = single-insert w q h (g .single);
+    }
+
+any-joined : (w : ℕ) (q : List ℕ) → any (joined w q) ≡ true
+any-joined w [] = refl
+any-joined w (x ∷ q) = go (ltb (prio w) (prio x))
+  where
+    go : (b : Bool) → any (cond b (w ∷ x ∷ q) (x ∷ joined w q)) ≡ true
+    go true = refl
+    go false = refl
+
+pub caller-valid : (p st c : ℕ) → callerCode p st ≡ pos c → p < maxPriority
+caller-valid p st c h = go (valid p) refl
+  where
+    go : (b : Bool) → valid p ≡ b → p < maxPriority
+    go true z = ltb-true p maxPriority z
+    go false z = let y : negsuc 21 ≡ pos c = rw z at h in absurd (let x : _≡_ {A = ℕ} 0 1 = cc in omega arith)
+
+module _ (K : Kind) (law : Lawful K) (v : ℕ → K .Wish) where
+  -- what an event leaves: the object as it should be, and of each priority those that were there, then those of `new`
+  pub record Steady (q : List ℕ) (o : Out (K .Num)) (new : List ℕ) : Type 0 where
+    pub numbers : K .formed (o .num) (any (o .turn .queue)) ≡ true
+    pub queue : Well (o .turn .queue)
+    pub stable : (p : ℕ) → Sub (chosen (of-priority p) (o .turn .queue)) (chosen (of-priority p) (q ++ new))
+
+  module _ (n : K .Num) (q : List ℕ) (f : K .formed n (any q) ≡ true) (g : Well q) where
+    same : (new : List ℕ) (p : ℕ) → Sub (chosen (of-priority p) q) (chosen (of-priority p) (q ++ new))
+    same new p = chosen-sub (of-priority p) (sub-front new (sub-all q))
+
+    refusal : (r : ℤ) (new : List ℕ) → Steady q (refused r n q) new
+    refusal r new = record { numbers = f; queue = g; stable = same new }
+
+    fewer : (o : Out (K .Num)) (new : List ℕ) → Sub (o .turn .queue) q → K .formed (o .num) (any (o .turn .queue)) ≡ true → Steady q o new
+    fewer o new t h =
+        record { numbers = h; queue = well-sub t g; stable = λ p. chosen-sub (of-priority p) (sub-front new t) }
+
+    -- the caller joins, or is refused
+    module _ (i p st c : ℕ) (small : i < 4294967296) (ok : callerCode p st ≡ pos c) (m : K .Num) (h : K .formed m true ≡ true) where
+      w : ℕ
+      w = entry p i
+
+      parks : (a b : Bool) → holds (ident (entry p i)) q ≡ a → ltb (length q) maxWaiters ≡ b
+          → Steady q (joins (thread i p st) m n q)
+          (cond (holds i q) [] (cond (holds i (joins {N = K .Num} (thread i p st) m n q .turn .queue)) (entry p i ∷ []) []))
+      parks true b x y = rw x (refusal (negsuc 15) _)
+      parks false false x y = rw (x, y) (refusal (negsuc 11) _)
+      parks false true x y =
+          let e : ident (entry p i) ≡ i = ident-entry p i small in
+          let z : holds i q ≡ false = rw e at x in
+          let u : holds i (joined (entry p i) q) ≡ true = has-insert prio (of i) (entry p i) q ∙ rw (eq-eqb (ident (entry p i)) i e) in
+          rw (x, y, z, u)
+          (record {
+            numbers = rw (any-joined (entry p i) q) h;
+            queue = well-joined (entry p i) q g x (ltb-true (length q) maxWaiters y) (rw (prio-entry p i small) (caller-valid p st c ok));
+            stable =
+                λ k.
+                rw (chosen-append (of-priority k) q (entry p i ∷ []), chosen-insert prio k (entry p i) q (g .sorted))
+                (sub-all (chosen (of-priority k) q ++ chosen (of-priority k) (entry p i ∷ [])));
+          })
+
+    threads : K .formed n (any (map ident q)) ≡ true
+    threads = rw (any-map ident q) f
+
+    -- a call by a thread, by its verdict
+    by-thread : (i p st : ℕ) → i < 4294967296 → (z : ℤ) → callerCode p st ≡ z → (d : Verdict (K .Num) (K .Wish)) → Sound K (map ident q) d
+        → Steady q (asked z n q (carried (thread i p st) d n q))
+        (cond (holds i q) [] (cond (holds i (asked z n q (carried (thread i p st) d n q) .turn .queue)) (entry p i ∷ []) []))
+    by-thread i p st b (negsuc c) z d s = refusal (negsuc c) _
+    by-thread i p st b (pos c) z (deny r) s = refusal r _
+    by-thread i p st b (pos c) z (allow m keep r) s = fewer _ _ (sub-all q) (rw (any-map ident q) at s)
+    by-thread i p st b (pos c) z (allow m (park x) r) s =
+        parks i p st c b z m s (holds (ident (entry p i)) q) (ltb (length q) maxWaiters) refl refl
+    by-thread i p st b (pos c) z (allow m (wake k t) r) s =
+        fewer _ _ (left-sub ident k q) (rw (left-map ident k q, any-map ident (left ident k q)) at s)
+
+    -- a call by anyone
+    by-anyone : (d : Verdict (K .Num) (K .Wish)) → Sound K (map ident q) d → Steady q (carried anyone d n q) []
+    by-anyone (deny r) s = refusal r []
+    by-anyone (allow m keep r) s = fewer _ [] (sub-all q) (rw (any-map ident q) at s)
+    by-anyone (allow m (park x) r) s = refusal (negsuc 21) []
+    by-anyone (allow m (wake k t) r) s = fewer _ [] (left-sub ident k q) (rw (left-map ident k q, any-map ident (left ident k q)) at s)
+
+    -- one leaves
+    still : (l : List ℕ) → Sub l q → K .formed n (any l) ≡ true
+    still [] t = go (any q) f
+      where
+        go : (b : Bool) → K .formed n b ≡ true → K .formed n false ≡ true
+        go true h = law .fewer n h
+        go false h = h
+    still (x ∷ l) t = there q t f
+      where
+        there : (m : List ℕ) → Sub (x ∷ l) m → K .formed n (any m) ≡ true → K .formed n true ≡ true
+        there (y ∷ m) u h = h
+
+    by-leaving : (i : ℕ) (b : Bool) → holds i q ≡ b → Steady q (record { num = n; turn = remove i q }) []
+    by-leaving i true h = rw h (fewer _ [] (others-sub (of i) q) (still (without i q) (others-sub (of i) q)))
+    by-leaving i false h = rw h (refusal (negsuc 1) [])
+
+  pub step : (s : Object (K .Num)) (x : Event (K .Call)) → Good K v s → Steady (s .queue) (happens K v s x) (came K v s x)
+  step s (calls k) g =
+      let f = g .numbers in
+      rw f (by-anyone (s .num) (s .queue) f (g .queue) (K .decide (s .num) v (map ident (s .queue)) 0 k) (law .sound (s .num) v (map ident (s .queue)) 0 k (threads (s .num) (s .queue) f (g .queue))))
+  step s (asks i p st h k) g =
+      let f = g .numbers in
+      let whole : asked (callerCode p st) (s .num) (s .queue) (carried (thread i p st) (K .decide (s .num) v (map ident (s .queue)) i k) (s .num) (s .queue))
+      ≡ happens K v s (asks i p st h k) = rw f in
+      subst (λ (o : Out (K .Num)). Steady (s .queue) o (cond (holds i (s .queue)) [] (cond (holds i (o .turn .queue)) (entry p i ∷ []) []))) whole
+      (by-thread (s .num) (s .queue) f (g .queue) i p st h (callerCode p st) refl (K .decide (s .num) v (map ident (s .queue)) i k)
+      (law .sound (s .num) v (map ident (s .queue)) i k (threads (s .num) (s .queue) f (g .queue))))
+  step s (leaves i) g = by-leaving (s .num) (s .queue) (g .numbers) (g .queue) i (holds i (s .queue)) refl
+
+  -- for any events
+  pub lasting : (s : Object (K .Num)) (xs : List (Event (K .Call))) → Good K v s → Lasting K v s xs
+  lasting s [] g = record { good = g; stable = λ p. rw append-nil (sub-all (chosen (of-priority p) (s .queue))) }
+  lasting s (x ∷ xs) g =
+      let a = step s x g in
+      let r : Lasting K v (next K v s x) xs = lasting (next K v s x) xs (record { numbers = a .numbers; queue = a .queue }) in
+      record {
+        good = r .good;
+        stable =
+            λ p.
+            let t : List ℕ = arrivals K v (next K v s x) xs in
+            let u = r .stable p in
+            sub-trans (rw (chosen-append (of-priority p) (next K v s x .queue) t) at u)
+            (rw (← append-assoc (s .queue) (came K v s x) t, chosen-append (of-priority p) (s .queue ++ came K v s x) t)
+            (sub-append (chosen (of-priority p) t) (a .stable p)));
+      }
+
+  -- from an object on which nobody waits
+  pub always : (n : K .Num) (xs : List (Event (K .Call))) → K .formed n false ≡ true → Lasting K v (record { num = n; queue = [] }) xs
+  always n xs f =
+      lasting (record { num = n; queue = [] }) xs
+      (record { numbers = f; queue = record { short = omega arith; sorted = tt; valid = tt; single = tt } })

@@ -1,0 +1,3 @@
+pub mod Memory
+pub mod Picks
+pub mod Histories

@@ -1,0 +1,141 @@
+-- The answers of an operation on an object in memory. Assumes nothing.
+use mathlib.Core.Path.{_≡_, refl, sym, ap, _∙_}
+use mathlib.Core.Bool.{Bool, true, false, cond}
+use mathlib.Core.List.{List, [], _∷_}
+use Prim.Native.Nat.{ℕ, zero, suc, _≤_, _<_}
+use native.Mathlib.Omega.{arith}
+use lib.Dec.{ltb, leb}
+use lib.IntN.{ℤ, pos, negsuc}
+use lib.ListN.{length, getD, set, drop, length-set}
+use lib.Seq.{getD-set-same, set-getD, drop-set-lt}
+use borrow.Author.Tests.{lt-ltb, le-leb, lt-leb, leb-true}
+use Rattle.seq.specs.List.{any}
+use Rattle.seq.proofs.Order.{clash}
+use Rattle.thread.specs.Code.{einval}
+use Rattle.wait_queue.specs.Queue.{waiting, roomy}
+use Rattle.wait_queue.specs.Turn.{Turn, at}
+use Rattle.wait_queue.specs.Post.{Refused}
+use Rattle.wait_queue.specs.Post as queue
+use Rattle.kind.specs.Kind.{Kind}
+use Rattle.kind.specs.Object.{Out, refused, Caller, call, Layout, on, Does, sane, Audited}
+
+-- the memory of an object is there
+pub record Housed {N : Type 0} (L : Layout N) (h e : List ℕ) : Type 0 where
+  pub words : L .words ≤ length h
+  pub room : roomy (getD h (L .len) 0) e ≡ true
+
+module _ {N : Type 0} (L : Layout N) (f : N → List ℕ → Out N) (h e : List ℕ) where
+  pub is-on : Housed L h e → on L f h e ≡ f (L .num h) (waiting e (getD h (L .len) 0))
+  is-on m = rw (le-leb (L .words) (length h) (m .words), m .room)
+
+  pub refuses : (k : ℕ) → on L f h e ≡ refused (negsuc k) (L .num h) (waiting e (getD h (L .len) 0)) → Does L f h e (negsuc k) h e
+  refuses k o = record { code = rw o; num = rw o; queue = rw o; kept = (refl, refl); beside = refl; rest = refl; long = (refl, refl) }
+
+  pub too-short : length h < L .words → Does L f h e einval h e
+  too-short l = refuses 21 (rw (lt-leb (L .words) (length h) l))
+
+  pub no-room : L .words ≤ length h → roomy (getD h (L .len) 0) e ≡ false → Does L f h e einval h e
+  no-room l r = refuses 21 (rw (le-leb (L .words) (length h) l, r))
+
+  pub denied : (k : ℕ) → Housed L h e → f (L .num h) (waiting e (getD h (L .len) 0)) ≡ refused (negsuc k) (L .num h) (waiting e (getD h (L .len) 0))
+      → Does L f h e (negsuc k) h e
+  denied k m t = refuses k (is-on m ∙ t)
+
+  -- only the header changes, and in its own words
+  pub renumbered : (c : ℕ) (n : N) (h' : List ℕ) → Housed L h e
+      → f (L .num h) (waiting e (getD h (L .len) 0)) ≡ record { num = n; turn = record { code = pos c; queue = waiting e (getD h (L .len) 0); woken = [] } }
+      → L .num h' ≡ n → getD h' (L .len) 0 ≡ getD h (L .len) 0 → drop (L .words) h' ≡ drop (L .words) h → length h' ≡ length h
+      → Does L f h e (pos c) h' e
+  renumbered c n h' m t x y z l =
+      let o = is-on m ∙ t in
+      record { code = rw o; num = rw o x; queue = rw (o, y) refl; kept = tt; beside = z; rest = refl; long = (l, refl) }
+
+  -- the queue's turn g, which set the word of its length; the numbers become n and the answer c, unless it is a refusal
+  pub turned : (g : List ℕ → Turn) (n : N) (c : ℕ) (r : ℤ) (k : ℕ) (h' e' : List ℕ) → Housed L h e
+      → f (L .num h) (waiting e (getD h (L .len) 0)) ≡ record { num = n; turn = record { code = pos c; queue = at g (getD h (L .len) 0) e .queue; woken = at g (getD h (L .len) 0) e .woken } }
+      → queue.Does g (getD h (L .len) 0) e r k e'
+      → L .num h' ≡ n → getD h' (L .len) 0 ≡ k → drop (L .words) h' ≡ drop (L .words) h → length h' ≡ length h
+      → Does L f h e (pos c) h' e'
+  turned g n c r k h' e' m t d x y z l =
+      let o = is-on m ∙ t in
+      record { code = rw o; num = rw o x; queue = rw (o, y) (d .queue); kept = tt; beside = z; rest = rw y (d .rest); long = (l, d .long) }
+
+  -- the queue's turn g is all that happens
+  pub followed : (g : List ℕ → Turn) (r : ℤ) (k : ℕ) (e' : List ℕ) → Housed L h e → L .len < L .words
+      → f (L .num h) (waiting e (getD h (L .len) 0)) ≡ record { num = L .num h; turn = at g (getD h (L .len) 0) e }
+      → queue.Does g (getD h (L .len) 0) e r k e'
+      → L .num (set h (L .len) k) ≡ L .num h
+      → Does L f h e r (set h (L .len) k) e'
+  followed g r k e' m b t d x =
+      let o = is-on m ∙ t in
+      let y : getD (set h (L .len) k) (L .len) 0 ≡ k = getD-set-same h (L .len) k 0 (omega (arith, m .words)) in
+      record {
+        code = rw o (d .code);
+        num = rw o x;
+        queue = rw (o, y) (d .queue);
+        kept = stays r (d .kept);
+        beside = drop-set-lt (L .words) h (L .len) k b;
+        rest = rw y (d .rest);
+        long = (length-set h (L .len) k, d .long);
+      }
+    where
+      stays : (z : ℤ) → Refused z ((k ≡ getD h (L .len) 0) × (e' ≡ e)) → Refused z ((set h (L .len) k ≡ h) × (e' ≡ e))
+      stays (pos c) p = tt
+      stays (negsuc c) p = (rw (p .0) (set-getD h (L .len) 0), p .1)
+
+-- a queue in memory has somebody exactly if its length is not 0
+pub any-waiting : (e : List ℕ) (n : ℕ) → any (waiting e n) ≡ ltb 0 n
+any-waiting e zero = refl
+any-waiting e (suc n) = sym (lt-ltb 0 (suc n) (omega arith))
+
+-- an object whose memory and numbers are as they should be
+pub record Sane (K : Kind) (L : Layout (K .Num)) (h e : List ℕ) : Type 0 where
+  pub housed : Housed L h e
+  pub numbers : K .formed (L .num h) (ltb 0 (getD h (L .len) 0)) ≡ true
+
+module _ (K : Kind) (L : Layout (K .Num)) (h e : List ℕ) where
+  pub is-sane : sane K L h e ≡ true → Sane K L h e
+  is-sane s = go (leb (L .words) (length h)) (roomy (getD h (L .len) 0) e) refl refl s
+    where
+      go : (a b : Bool) → leb (L .words) (length h) ≡ a → roomy (getD h (L .len) 0) e ≡ b
+          → cond a (cond b (K .formed (L .num h) (ltb 0 (getD h (L .len) 0))) false) false ≡ true → Sane K L h e
+      go true true x y z = record { housed = record { words = leb-true (L .words) (length h) x; room = y }; numbers = z }
+      go true false x y z = clash (sym z)
+      go false b x y z = clash (sym z)
+
+  pub formed-queue : Sane K L h e → K .formed (L .num h) (any (waiting e (getD h (L .len) 0))) ≡ true
+  formed-queue m = rw (any-waiting e (getD h (L .len) 0)) (m .numbers)
+
+  -- any operation refuses an object that is not
+  pub malformed : (f : K .Num → List ℕ → Out (K .Num))
+      → ((n : K .Num) (q : List ℕ) → K .formed n (any q) ≡ false → f n q ≡ refused einval n q)
+      → sane K L h e ≡ false → on L f h e ≡ refused einval (L .num h) (waiting e (getD h (L .len) 0))
+  malformed f r s = go (leb (L .words) (length h)) (roomy (getD h (L .len) 0) e) refl refl s
+    where
+      go : (a b : Bool) → leb (L .words) (length h) ≡ a → roomy (getD h (L .len) 0) e ≡ b
+          → cond a (cond b (K .formed (L .num h) (ltb 0 (getD h (L .len) 0))) false) false ≡ false
+          → cond a (cond b (f (L .num h) (waiting e (getD h (L .len) 0))) (refused einval (L .num h) (waiting e (getD h (L .len) 0)))) (refused einval (L .num h) (waiting e (getD h (L .len) 0)))
+          ≡ refused einval (L .num h) (waiting e (getD h (L .len) 0))
+      go true true x y z = r (L .num h) (waiting e (getD h (L .len) 0)) (rw (any-waiting e (getD h (L .len) 0)) z)
+      go true false x y z = refl
+      go false b x y z = refl
+
+  pub rejected : (f : K .Num → List ℕ → Out (K .Num))
+      → ((n : K .Num) (q : List ℕ) → K .formed n (any q) ≡ false → f n q ≡ refused einval n q)
+      → sane K L h e ≡ false → Does L f h e einval h e
+  rejected f r s = refuses L f h e 21 (malformed f r s)
+
+  pub call-refuses : (v : ℕ → K .Wish) (w : Caller) (k : K .Call) (n : K .Num) (q : List ℕ) → K .formed n (any q) ≡ false
+      → call K v w k n q ≡ refused einval n q
+  call-refuses v w k n q z = rw z
+
+  -- the audit: of the numbers, then of the queue
+  pub audit-insane : sane K L h e ≡ false → Audited K L h e false
+  audit-insane s = record { sound = λ z. clash (sym z); complete = λ w. clash (sym (w .0) ∙ s) }
+
+  pub audit-queue : (r : Bool) → sane K L h e ≡ true → queue.Audited (getD h (L .len) 0) e r → Audited K L h e r
+  audit-queue r s a =
+      record {
+        sound = λ z. (s, a .sound z .1);
+        complete = λ w. a .complete (is-sane s .housed .room, w .1);
+      }

@@ -1,0 +1,59 @@
+-- Any sequence of calls on one object of any lawful kind.
+use mathlib.Core.Path.{_≡_}
+use mathlib.Core.Bool.{Bool, true, false, cond}
+use mathlib.Core.List.{List, [], _∷_, _++_}
+use Prim.Native.Nat.{ℕ, _<_}
+use lib.Dec.{eqb}
+use Rattle.seq.specs.List.{any, chosen, Sub}
+use Rattle.wait_queue.specs.Queue.{entry, prio, holds, Well}
+use Rattle.wait_queue.specs.Turn.{Turn, remove}
+use Rattle.kind.specs.Kind.{Kind}
+use Rattle.kind.specs.Object.{Out, Caller, anyone, thread, call}
+
+pub record Object (N : Type 0) : Type 0 where
+  pub num : N
+  pub queue : List ℕ
+
+-- what can happen to an object: a call by anyone; a call by a thread; a thread's time is over and it leaves. Ids are 32-bit numbers
+pub data Event (C : Type 0) : Type 0 where
+  calls : C → Event C
+  asks : (i p st : ℕ) → i < 4294967296 → C → Event C
+  leaves : ℕ → Event C
+
+abbrev pub of-priority : ℕ → ℕ → Bool
+of-priority p x = eqb (prio x) p
+
+module _ (K : Kind) (v : ℕ → K .Wish) where
+  abbrev pub happens : Object (K .Num) → Event (K .Call) → Out (K .Num)
+  happens s (calls k) = call K v anyone k (s .num) (s .queue)
+  happens s (asks i p st h k) = call K v (thread i p st) k (s .num) (s .queue)
+  happens s (leaves i) = record { num = s .num; turn = remove i (s .queue) }
+
+  abbrev pub next : Object (K .Num) → Event (K .Call) → Object (K .Num)
+  next s x = record { num = happens s x .num; queue = happens s x .turn .queue }
+
+  abbrev pub run : Object (K .Num) → List (Event (K .Call)) → Object (K .Num)
+  run s [] = s
+  run s (x ∷ xs) = run (next s x) xs
+
+  -- the entry of the caller, if it is in the queue after the event and was not before
+  abbrev pub came : Object (K .Num) → Event (K .Call) → List ℕ
+  came s (calls k) = []
+  came s (asks i p st h k) =
+      cond (holds i (s .queue)) [] (cond (holds i (next s (asks i p st h k) .queue)) (entry p i ∷ []) [])
+  came s (leaves i) = []
+
+  -- all that began to wait, in the order of time
+  abbrev pub arrivals : Object (K .Num) → List (Event (K .Call)) → List ℕ
+  arrivals s [] = []
+  arrivals s (x ∷ xs) = came s x ++ arrivals (next s x) xs
+
+  -- an object as it should be: in particular nobody waits with numbers with which nobody waits
+  pub record Good (s : Object (K .Num)) : Type 0 where
+    pub numbers : K .formed (s .num) (any (s .queue)) ≡ true
+    pub queue : Well (s .queue)
+
+  -- after any events the object is as it should be, and those of one priority stand in the order in which they came
+  pub record Lasting (s : Object (K .Num)) (xs : List (Event (K .Call))) : Type 0 where
+    pub good : Good (run s xs)
+    pub stable : (p : ℕ) → Sub (chosen (of-priority p) (run s xs .queue)) (chosen (of-priority p) (s .queue ++ arrivals s xs))

@@ -1,0 +1,58 @@
+-- A kind of kernel object, and what it has to prove to get every law of this crate.
+use mathlib.Core.Path.{_≡_}
+use mathlib.Core.Bool.{Bool, true, false, cond}
+use mathlib.Core.List.{List}
+use Prim.Native.Nat.{ℕ}
+use lib.IntN.{ℤ}
+use Rattle.seq.specs.List.{any, All}
+use Rattle.thread.specs.Code.{einval}
+use Rattle.kind.specs.Verdict.{gone, left, Act, keep, park, wake, Verdict, deny, allow}
+
+pub record Kind : Type 1 where
+  pub Num : Type 0
+  pub Call : Type 0
+  -- what a thread waits with
+  pub Wish : Type 0
+  -- numbers as they should be, of an object on which somebody waits (true) or nobody
+  pub formed : Num → Bool → Bool
+  -- from the numbers, the wishes and the threads of those that wait, the caller and the call
+  pub decide : Num → (ℕ → Wish) → List ℕ → ℕ → Call → Verdict Num Wish
+  -- with such numbers one waits with this wish: what it waits for is not there
+  pub Blocked : Num → Wish → Type 0
+  -- the result that a call owes to one that it wakes and that waited with this wish
+  pub Owes : Call → Wish → ℤ → Type 0
+
+-- malformed numbers are refused first: this is what decide functions and objects answer
+abbrev pub judge : (K : Kind) → K .Num → (ℕ → K .Wish) → List ℕ → ℕ → K .Call → Verdict (K .Num) (K .Wish)
+judge K n v q w k = cond (K .formed n (any q)) (K .decide n v q w k) (deny einval)
+
+-- nobody of q waits for what is there
+abbrev pub Rightly : (K : Kind) → K .Num → (ℕ → K .Wish) → List ℕ → Type 0
+Rightly K n v q = All (λ t. K .Blocked n (v t)) q
+
+-- the threads that wait: each stands for itself
+abbrev pub itself : ℕ → ℕ
+itself t = t
+
+-- a verdict leaves numbers as they should be
+abbrev pub Sound : (K : Kind) → List ℕ → Verdict (K .Num) (K .Wish) → Type 0
+Sound K q (deny r) = Unit {0}
+Sound K q (allow n keep r) = K .formed n (any q) ≡ true
+Sound K q (allow n (park x) r) = K .formed n true ≡ true
+Sound K q (allow n (wake p f) r) = K .formed n (any (left itself p q)) ≡ true
+
+-- a verdict on the call k leaves nobody waiting for what is there, and pays what it owes
+abbrev pub Right : (K : Kind) → (ℕ → K .Wish) → List ℕ → K .Call → Verdict (K .Num) (K .Wish) → Type 0
+Right K v q k (deny r) = Unit {0}
+Right K v q k (allow n keep r) = Rightly K n v q
+Right K v q k (allow n (park x) r) = K .Blocked n x × Rightly K n v q
+Right K v q k (allow n (wake p f) r) = Rightly K n v (left itself p q) × All (λ t. K .Owes k (v t) (f t)) (gone itself p q)
+
+-- all that a kind has to prove
+pub record Lawful (K : Kind) : Type 0 where
+  pub sound : (n : K .Num) (v : ℕ → K .Wish) (q : List ℕ) (w : ℕ) (k : K .Call) → K .formed n (any q) ≡ true
+      → Sound K q (K .decide n v q w k)
+  pub right : (n : K .Num) (v : ℕ → K .Wish) (q : List ℕ) (w : ℕ) (k : K .Call) → K .formed n (any q) ≡ true → Rightly K n v q
+      → Right K v q k (K .decide n v q w k)
+  -- who leaves changes no number
+  pub fewer : (n : K .Num) → K .formed n true ≡ true → K .formed n false ≡ true

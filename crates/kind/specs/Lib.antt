@@ -1,0 +1,4 @@
+pub mod Verdict
+pub mod Kind
+pub mod Object
+pub mod History

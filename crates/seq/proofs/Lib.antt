@@ -1,0 +1,4 @@
+pub mod Integers
+pub mod Back
+pub mod Order
+pub mod Sub

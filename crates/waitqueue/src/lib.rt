@@ -1,0 +1,2 @@
+// The C interface: include/waitqueue.h.
+pub mod threads;
