@@ -1,69 +1,28 @@
 -- Any sequence of events leaves an object of a lawful kind as it should be, and its queue in the order of arrival. Assumes nothing.
-use mathlib.Core.Path.{_≡_, refl, sym, ap, _∙_, subst}
+use mathlib.Core.Path.{_≡_, refl, _∙_, subst}
 use mathlib.Core.Bool.{Bool, true, false, cond}
 use mathlib.Core.List.{List, [], _∷_, _++_, append-assoc, append-nil, map}
-use Prim.Native.Nat.{ℕ, zero, suc, _+_, _≤_, _<_}
+use Prim.Native.Nat.{ℕ, _<_}
 use native.Mathlib.Omega.{arith}
-use lib.Dec.{ltb, leb, eqb}
+use lib.Dec.{ltb}
 use lib.IntN.{ℤ, pos, negsuc}
 use lib.ListN.{length}
-use borrow.Author.Tests.{ltb-true, eq-eqb, eqb-true}
-use Rattle.seq.specs.List.{any, has, chosen, All, Sorted, Sub, end, skip, have}
-use Rattle.seq.proofs.Order.{clash, length-insert, sorted-insert, all-insert, has-insert}
-use Rattle.seq.proofs.Sub.{sub-all, sub-trans, sub-append, sub-front, sub-length, sub-holds, sub-sorted, sub-has, others-sub, chosen-append, chosen-sub, chosen-insert}
+use borrow.Author.Tests.{ltb-true, eq-eqb}
+use Rattle.seq.specs.List.{any, chosen, Sub}
+use Rattle.seq.proofs.Order.{has-insert}
+use Rattle.seq.proofs.Sub.{sub-all, sub-trans, sub-append, sub-front, others-sub, chosen-append, chosen-sub, chosen-insert}
 use Rattle.thread.specs.Priority.{maxPriority, valid}
 use Rattle.thread.specs.Caller.{callerCode}
-use Rattle.wait_queue.specs.Queue.{maxWaiters, entry, prio, ident, of, holds, joined, without, NoLower, Single, Well}
-use Rattle.wait_queue.specs.Turn.{Turn, refuse, parked, remove}
+use Rattle.wait_queue.specs.Queue.{maxWaiters, entry, prio, ident, of, holds, joined, without, Well}
+use Rattle.wait_queue.specs.Turn.{remove}
 use Rattle.wait_queue.proofs.Insertion.{prio-entry}
 use Rattle.wait_queue.proofs.Answers.{ident-entry}
-use Rattle.kind.specs.Verdict.{Verdict, deny, allow, keep, park, wake, left, gone}
-use Rattle.kind.specs.Kind.{Kind, Lawful, Sound, itself}
-use Rattle.kind.specs.Object.{Out, refused, Caller, anyone, thread, name, code, joins, carried, asked, call}
-use Rattle.kind.specs.History.{Object, Event, calls, asks, leaves, of-priority, happens, next, run, came, arrivals, Good, Lasting}
+use Rattle.wait_queue.proofs.Well.{well-empty, well-sub, well-joined}
+use Rattle.kind.specs.Verdict.{Verdict, deny, allow, keep, park, wake, left}
+use Rattle.kind.specs.Kind.{Kind, Lawful, Sound}
+use Rattle.kind.specs.Object.{Out, refused, anyone, thread, joins, carried, asked}
+use Rattle.kind.specs.History.{Object, Event, calls, asks, leaves, of-priority, happens, next, came, arrivals, Good, Lasting}
 use Rattle.kind.proofs.Picks.{any-map, left-sub, left-map}
-
--- a queue within one that is as it should be
-single-sub : {l m : List ℕ} → Sub l m → Single m → Single l
-single-sub end s = tt
-single-sub (skip t) s = single-sub t (s .1)
-single-sub (have {x = x} t) s = (sub-has (of (ident x)) t (s .0), single-sub t (s .1))
-
-pub well-sub : {l m : List ℕ} → Sub l m → Well m → Well l
-well-sub t w =
-    record {
-      short = omega (arith, sub-length t, w .short);
-      sorted = sub-sorted NoLower t (w .sorted);
-      valid = sub-holds (λ x. prio x < maxPriority) t (w .valid);
-      single = single-sub t (w .single);
-    }
-
--- one more in such a queue
-single-insert : (w : ℕ) (q : List ℕ) → holds (ident w) q ≡ false → Single q → Single (joined w q)
-single-insert w [] h s = (refl, tt)
-single-insert w (x ∷ q) h s = go (ltb (prio w) (prio x)) (eqb (ident x) (ident w)) refl h (λ k. single-insert w q k (s .1))
-  where
-    other : eqb (ident x) (ident w) ≡ false → eqb (ident w) (ident x) ≡ false
-    other f = twist (eqb (ident w) (ident x)) refl
-      where
-        twist : (b : Bool) → eqb (ident w) (ident x) ≡ b → eqb (ident w) (ident x) ≡ false
-        twist true z = clash (sym (eq-eqb (ident x) (ident w) (sym (eqb-true (ident w) (ident x) z))) ∙ f)
-        twist false z = z
-
-    go : (b a : Bool) → eqb (ident x) (ident w) ≡ a → cond a true (holds (ident w) q) ≡ false → (holds (ident w) q ≡ false → Single (joined w q))
-        → Single (cond b (w ∷ x ∷ q) (x ∷ joined w q))
-    go b true e g ih = clash g
-    go true false e g ih = (rw e g, s)
-    go false false e g ih = (has-insert prio (of (ident x)) w q ∙ rw (other e) (s .0), ih g)
-
-pub well-joined : (w : ℕ) (q : List ℕ) → Well q → holds (ident w) q ≡ false → length q < maxWaiters → prio w < maxPriority → Well (joined w q)
-well-joined w q g h l v =
-    record {
-      short = omega (arith, length-insert prio w q);
-      sorted = sorted-insert prio w q (g .sorted);
-      valid = all-insert prio (λ x. prio x < maxPriority) w q v (g .valid);
-      single = single-insert w q h (g .single);
-    }
 
 any-joined : (w : ℕ) (q : List ℕ) → any (joined w q) ≡ true
 any-joined w [] = refl
@@ -194,4 +153,4 @@ module _ (K : Kind) (law : Lawful K) (v : ℕ → K .Wish) where
   pub always : (n : K .Num) (xs : List (Event (K .Call))) → K .formed n false ≡ true → Lasting K v (record { num = n; queue = [] }) xs
   always n xs f =
       lasting (record { num = n; queue = [] }) xs
-      (record { numbers = f; queue = record { short = omega arith; sorted = tt; valid = tt; single = tt } })
+      (record { numbers = f; queue = well-empty })

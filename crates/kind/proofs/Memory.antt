@@ -10,14 +10,15 @@ use lib.ListN.{length, getD, set, drop, length-set}
 use lib.Seq.{getD-set-same, set-getD, drop-set-lt}
 use borrow.Author.Tests.{lt-ltb, le-leb, lt-leb, leb-true}
 use Rattle.seq.specs.List.{any}
-use Rattle.seq.proofs.Order.{clash}
+use Rattle.seq.proofs.Order.{clash, cond-same}
 use Rattle.thread.specs.Code.{einval}
 use Rattle.wait_queue.specs.Queue.{waiting, roomy}
 use Rattle.wait_queue.specs.Turn.{Turn, at}
 use Rattle.wait_queue.specs.Post.{Refused}
 use Rattle.wait_queue.specs.Post as queue
+use Rattle.wait_queue.proofs.Memory.{roomy-zero, not-at}
 use Rattle.kind.specs.Kind.{Kind}
-use Rattle.kind.specs.Object.{Out, refused, Caller, call, Layout, on, Does, sane, Audited}
+use Rattle.kind.specs.Object.{Out, refused, Caller, call, Layout, on, Does, sized, sane, Audited}
 
 -- the memory of an object is there
 pub record Housed {N : Type 0} (L : Layout N) (h e : List ℕ) : Type 0 where
@@ -83,6 +84,22 @@ module _ {N : Type 0} (L : Layout N) (f : N → List ℕ → Out N) (h e : List 
       stays (pos c) p = tt
       stays (negsuc c) p = (rw (p .0) (set-getD h (L .len) 0), p .1)
 
+-- a queue that has no room refuses, and so does its object
+pub followed-out : {N : Type 0} (L : Layout N) (f : N → List ℕ → Out N) (h e : List ℕ) (g : List ℕ → Turn) (r : ℤ) (k : ℕ) (e' : List ℕ) → L .words ≤ length h
+    → roomy (getD h (L .len) 0) e ≡ false → queue.Does g (getD h (L .len) 0) e r k e' → Does L f h e r (set h (L .len) k) e'
+followed-out L f h e g r k e' w o d =
+    let c : r ≡ einval = d .code ∙ ap (λ (t : Turn). t .code) (not-at (getD h (L .len) 0) e g o) in
+    let p : (k ≡ getD h (L .len) 0) × (e' ≡ e) = rw c at (d .kept) in
+    rw (c, p .0, p .1, set-getD h (L .len) 0) (no-room L f h e w o)
+
+-- a refusal leaves every word as it was
+pub unchanged : {N : Type 0} (L : Layout N) (f : N → List ℕ → Out N) (h e : List ℕ) (r : ℤ) (h' e' : List ℕ) (k : ℕ) → Does L f h e r h' e'
+    → on L f h e .turn .code ≡ negsuc k → (r ≡ negsuc k) × (h' ≡ h) × (e' ≡ e)
+unchanged L f h e r h' e' k d o =
+    let c : r ≡ negsuc k = d .code ∙ o in
+    let p : (h' ≡ h) × (e' ≡ e) = rw c at (d .kept) in
+    (c, p .0, p .1)
+
 -- a queue in memory has somebody exactly if its length is not 0
 pub any-waiting : (e : List ℕ) (n : ℕ) → any (waiting e n) ≡ ltb 0 n
 any-waiting e zero = refl
@@ -102,6 +119,45 @@ module _ (K : Kind) (L : Layout (K .Num)) (h e : List ℕ) where
       go true true x y z = record { housed = record { words = leb-true (L .words) (length h) x; room = y }; numbers = z }
       go true false x y z = clash (sym z)
       go false b x y z = clash (sym z)
+
+  -- by the room, then by what the words hold
+  pub unsized : sized L h e ≡ false → sane K L h e ≡ false
+  unsized s = go (leb (L .words) (length h)) (roomy (getD h (L .len) 0) e) refl refl s
+    where
+      none : roomy 0 e ≡ false → roomy (getD h (L .len) 0) e ≡ true → true ≡ false
+      none x y = sym (roomy-zero (getD h (L .len) 0) e y) ∙ x
+
+      go : (a b : Bool) → leb (L .words) (length h) ≡ a → roomy (getD h (L .len) 0) e ≡ b → cond a (roomy 0 e) false ≡ false
+          → cond a (cond b (K .formed (L .num h) (ltb 0 (getD h (L .len) 0))) false) false ≡ false
+      go true true x y z = clash (none z y)
+      go true false x y z = refl
+      go false b x y z = refl
+
+  module _ (s : sized L h e ≡ true) where
+    pub sized-words : L .words ≤ length h
+    sized-words = go (leb (L .words) (length h)) refl s
+      where
+        go : (a : Bool) → leb (L .words) (length h) ≡ a → cond a (roomy 0 e) false ≡ true → L .words ≤ length h
+        go true x z = leb-true (L .words) (length h) x
+        go false x z = clash (sym z)
+
+    sized-room : roomy 0 e ≡ true
+    sized-room = go (leb (L .words) (length h)) s
+      where
+        go : (a : Bool) → cond a (roomy 0 e) false ≡ true → roomy 0 e ≡ true
+        go true z = z
+        go false z = clash (sym z)
+
+    -- nobody waits
+    pub idle-sane : getD h (L .len) 0 ≡ 0 → K .formed (L .num h) false ≡ true → sane K L h e ≡ true
+    idle-sane z f = rw (le-leb (L .words) (length h) sized-words, z, sized-room, f)
+
+    -- the numbers are not as they should be
+    pub misnumbered : K .formed (L .num h) (ltb 0 (getD h (L .len) 0)) ≡ false → sane K L h e ≡ false
+    misnumbered f = rw (le-leb (L .words) (length h) sized-words, f) (cond-same (roomy (getD h (L .len) 0) e) false)
+
+    pub roomy-sane : roomy (getD h (L .len) 0) e ≡ true → K .formed (L .num h) (ltb 0 (getD h (L .len) 0)) ≡ true → sane K L h e ≡ true
+    roomy-sane r f = rw (le-leb (L .words) (length h) sized-words, r, f)
 
   pub formed-queue : Sane K L h e → K .formed (L .num h) (any (waiting e (getD h (L .len) 0))) ≡ true
   formed-queue m = rw (any-waiting e (getD h (L .len) 0)) (m .numbers)

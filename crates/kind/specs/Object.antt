@@ -93,6 +93,10 @@ pub record Does {N : Type 0} (L : Layout N) (f : N → List ℕ → Out N) (h e 
   pub rest : drop (getD h' (L .len) 0) e' ≡ drop (getD h' (L .len) 0) e
   pub long : (length h' ≡ length h) × (length e' ≡ length e)
 
+-- the header and the entries have their room, whatever they hold
+abbrev pub sized : {N : Type 0} → Layout N → List ℕ → List ℕ → Bool
+sized L h e = cond (leb (L .words) (length h)) (roomy 0 e) false
+
 -- the memory and the numbers are as they should be
 abbrev pub sane : (K : Kind) → Layout (K .Num) → List ℕ → List ℕ → Bool
 sane K L h e =

@@ -20,6 +20,9 @@ plain f = toZ-ofZ f
 pub answered : {z : ℤ} → mag z < 2147483648 → toZ w32 (ofZ w32 z) ≡ z
 answered h = plain (record { sfits = h })
 
+pub answered64 : {z : ℤ} → mag z < 9223372036854775808 → toZ w64 (ofZ w64 z) ≡ z
+answered64 h = toZ-ofZ {w = w64} (record { sfits = h })
+
 pub plain64 : {z : ℤ} → SFits w32 z → toZ w64 (ofZ w64 z) ≡ z
 plain64 f = toZ-ofZ {w = w64} (sfits-widen tt f)
 

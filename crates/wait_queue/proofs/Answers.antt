@@ -5,12 +5,15 @@ use mathlib.Core.List.{List, [], _∷_, _++_, map}
 use Prim.Native.Nat.{ℕ, zero, suc, _+_, _-_, _≤_, _<_}
 use native.Mathlib.Numerals.{add-one}
 use native.Mathlib.Omega.{arith}
+use lib.Dec.{eqb}
 use lib.IntN.{ℤ, pos, negsuc}
 use lib.ListN.{length, getD, drop}
-use borrow.Author.Tests.{lt-ltb, le-ltb, le-leb, lt-leb}
+use lib.Signed.{mag}
+use borrow.Author.Tests.{lt-ltb, le-ltb, le-leb, lt-leb, ne-eqb}
 use Rattle.seq.proofs.Back.{back-length}
 use Rattle.seq.proofs.Order.{others-less, others-same}
 use Rattle.thread.specs.Code.{enoent, enomem, ebusy, einval}
+use Rattle.thread.specs.Priority.{valid}
 use Rattle.thread.specs.Caller.{callerCode}
 use Rattle.wait_queue.specs.Queue.{maxWaiters, entry, ident, woken, waiting, roomy, of, holds, joined, without}
 use Rattle.wait_queue.specs.Turn.{Turn, refuse, at, pend, unpendFirst, unpendAll, remove}
@@ -19,6 +22,21 @@ use Rattle.wait_queue.proofs.Memory.{refused, done, misfit, is-at, not-
 
 pub ident-entry : (p i : ℕ) → i < 4294967296 → ident (entry p i) ≡ i
 ident-entry p i h = omega arith
+
+-- what the numbers of a caller are answered
+pub idle-caller : (p st : ℕ) → (st ≡ 1 → ⊥) → callerCode p st ≡ negsuc (mag (callerCode p st))
+idle-caller p st h = rw (ne-eqb st 1 h) (go (valid p) (eqb st 2))
+  where
+    go : (a b : Bool) → cond a (cond b ebusy einval) einval ≡ negsuc (mag (cond a (cond b ebusy einval) einval))
+    go true true = refl
+    go true false = refl
+    go false b = refl
+
+pub low-caller : (p st : ℕ) → 32 ≤ p → callerCode p st ≡ einval
+low-caller p st h = rw (le-ltb p 32 h)
+
+pub right-caller : (p st : ℕ) → st ≡ 1 → p < 32 → callerCode p st ≡ pos 0
+right-caller p st z h = rw (z, lt-ltb p 32 h)
 
 module _ (n : ℕ) (e : List ℕ) where
   -- pend

@@ -6,12 +6,14 @@ use Prim.Native.Nat.{ℕ, zero, suc, _+_, _-_, _≤_, _<_}
 use native.Mathlib.Numerals.{add-one}
 use native.Mathlib.Nat.{sub-zero}
 use native.Mathlib.Omega.{arith}
+use native.Mathlib.Decide.{ℕ-discrete, decLt}
+use lib.Dec.{eqb}
 use lib.ListN.{length, getD, set, take, drop, length-set, length-map, take-append-drop}
 use lib.Seq.{getD-set-same, getD-set-other, set-getD, take-suc-set, drop-set-lt, drop-drop}
 use borrow.Author.Tests.{eq-eqb, ne-eqb}
 use Rattle.seq.proofs.Back.{back-length, back-set, drop-same}
 use Rattle.wait_queue.specs.Queue.{ident, waiting, holds, without}
-use Rattle.wait_queue.specs.Post.{Listed, Packed}
+use Rattle.wait_queue.specs.Post.{Listed, Packed, Hit, Searched}
 
 -- has
 pub has-hit : (e : List ℕ) (k i : ℕ) → ident (getD e k 0) ≡ i → true ≡ holds i (waiting e (k + 1))
@@ -19,6 +21,60 @@ has-hit e k i h = rw (add-one, eq-eqb (ident (getD e k 0)) i h)
 
 pub has-miss : (e : List ℕ) (k i : ℕ) (b : Bool) → (ident (getD e k 0) ≡ i → ⊥) → b ≡ holds i (waiting e k) → b ≡ holds i (waiting e (k + 1))
 has-miss e k i b h s = rw (add-one, ne-eqb (ident (getD e k 0)) i h) s
+
+-- once it was hit among the first k, it is among more
+pub has-more : (e : List ℕ) (k n i : ℕ) → k ≤ n → true ≡ holds i (waiting e k) → true ≡ holds i (waiting e n)
+has-more e k zero i h t = let z : k ≡ 0 = omega arith in rw z at t
+has-more e k (suc n) i h t = go (ℕ-discrete k (suc n)) (has-more e k n i)
+  where
+    either : (b : Bool) → true ≡ holds i (waiting e n) → true ≡ cond b true (holds i (waiting e n))
+    either true u = refl
+    either false u = u
+
+    go : Dec (k ≡ suc n) → (k ≤ n → true ≡ holds i (waiting e k) → true ≡ holds i (waiting e n)) → true ≡ holds i (waiting e (suc n))
+    go (yes q) ih = rw q at t
+    go (no q) ih = either (eqb (ident (getD e n 0)) i) (ih (omega arith) t)
+
+-- a search over a part of the entries
+abbrev Absent : ℕ → List ℕ → ℕ → ℕ → Type 0
+Absent i e a b = Searched i e a b false
+
+pub absent-none : (i : ℕ) (e : List ℕ) (a : ℕ) → Absent i e a a
+absent-none i e a j h g q = absurd (omega arith)
+
+pub absent-next : (i : ℕ) (e : List ℕ) (a b k : ℕ) → b ≡ k + 1 → Absent i e a k → (ident (getD e k 0) ≡ i → ⊥) → Absent i e a b
+absent-next i e a b k q s n j h g z = go (ℕ-discrete j k)
+  where
+    go : Dec (j ≡ k) → ⊥
+    go (yes y) = n (rw y at z)
+    go (no y) = s j h (omega arith) z
+
+-- parts that overlap
+pub absent-join : (i : ℕ) (e : List ℕ) (a m k b : ℕ) → k ≤ m → Absent i e a m → Absent i e k b → Absent i e a b
+absent-join i e a m k b l s t j h g z = go (decLt j m)
+  where
+    go : Dec (j < m) → ⊥
+    go (yes y) = s j h y z
+    go (no y) = t j (omega arith) g z
+
+pub hit-at : (i : ℕ) (e : List ℕ) (a b k : ℕ) → a ≤ k → k < b → ident (getD e k 0) ≡ i → Hit i e a b
+hit-at i e a b k h g q = record { place = k; from = h; below = g; is = q }
+
+pub hit-wide : (i : ℕ) (e : List ℕ) (a b c d : ℕ) → c ≤ a → b ≤ d → Hit i e a b → Hit i e c d
+hit-wide i e a b c d h g x = record { place = x .place; from = omega (arith, x .from); below = omega (arith, x .below); is = x .is }
+
+-- the last part decides
+pub last-part : (i : ℕ) (e : List ℕ) (m k n : ℕ) (r : Bool) → k ≤ m → Absent i e 0 m → Searched i e k n r → Searched i e 0 n r
+last-part i e m k n true h s t = hit-wide i e k n 0 n (omega arith) (omega arith) t
+last-part i e m k n false h s t = absent-join i e 0 m k n h s t
+
+-- all of the first n
+pub searched : (e : List ℕ) (n i : ℕ) (r : Bool) → Searched i e 0 n r → r ≡ holds i (waiting e n)
+searched e n i true x = has-more e (x .place + 1) n i (omega (arith, x .below)) (has-hit e (x .place) i (x .is))
+searched e zero i false s = refl
+searched e (suc n) i false s =
+    let t : false ≡ holds i (waiting e n) = searched e n i false (λ j h g. s j h (omega arith)) in
+    rw add-one at (has-miss e n i false (s n (omega arith) (omega arith)) t)
 
 -- hand_out: j are handed out, each as f says, and n - j are still to be
 pub record Handing (f : ℕ → ℕ) (e : List ℕ) (n : ℕ) (out₀ out : List ℕ) (j : ℕ) : Type 0 where

@@ -48,6 +48,10 @@ module _ (n : ℕ) (e : List ℕ) where
       go true false x y z = clash (sym z)
       go false b x y z = clash (sym z)
 
+  -- memory with room for a queue has room for an empty one
+  pub roomy-zero : roomy n e ≡ true → roomy 0 e ≡ true
+  roomy-zero h = let g : Roomy = is-roomy h in let z : 0 ≤ maxWaiters = omega arith in rw (le-leb 0 maxWaiters z, le-leb maxWaiters (length e) (g .room))
+
   -- memory that is malformed is refused
   pub misfit : (f : List ℕ → Turn) → roomy n e ≡ false → Does f n e einval n e
   misfit f h = record { code = rw h; queue = rw h; kept = (refl, refl); rest = refl; long = refl }

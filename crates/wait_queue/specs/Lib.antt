@@ -1,3 +1,4 @@
 pub mod Queue
 pub mod Turn
 pub mod Post
+pub mod Upstream

@@ -76,3 +76,15 @@ pub record Packed (i n : ℕ) (e : List ℕ) (k : ℕ) (e' : List ℕ) : Type 0 
   pub rest : drop k e' ≡ drop k e
   pub kept : k ≡ n → e' ≡ e
   pub long : length e' ≡ length e
+
+-- the thread i has an entry at one of the places from a to below b
+pub record Hit (i : ℕ) (e : List ℕ) (a b : ℕ) : Type 0 where
+  pub place : ℕ
+  pub from : a ≤ place
+  pub below : place < b
+  pub is : ident (getD e place 0) ≡ i
+
+-- the answer to whether it has one there
+abbrev pub Searched : ℕ → List ℕ → ℕ → ℕ → Bool → Type 0
+Searched i e a b true = Hit i e a b
+Searched i e a b false = (j : ℕ) → a ≤ j → j < b → ident (getD e j 0) ≡ i → ⊥

@@ -18,7 +18,7 @@ ghost use Rattle.seq.specs.Word.{word};
 ghost use Rattle.thread.specs.Caller.{callerCode};
 ghost use Rattle.wait_queue.specs.Queue.{maxWaiters, entry, woken, waiting, roomy, holds, joined, without};
 ghost use Rattle.wait_queue.specs.Turn.{at, pend as pendTurn, unpendFirst, unpendAll, remove as removeTurn};
-ghost use Rattle.wait_queue.specs.Post.{Does, Told, Listed, number, isEmpty, Audited, sound, Shifted, Stopped, Packed};
+ghost use Rattle.wait_queue.specs.Post.{Does, Told, Listed, number, isEmpty, Audited, sound, Searched, Shifted, Stopped, Packed};
 
 // How many threads can wait on one object.
 pub const MAX_WAITERS: usize = 64;
@@ -83,8 +83,58 @@ pub fn is_empty(n: u32, e: &[u64]) -> i32
     0
 }
 
-// Whether the thread id is among the first n. No early exit, so that several are compared at a time.
-fn has(e: &[u64], n: usize, id: u64) -> bool
+// Whether the thread id has one of the four entries from b on.
+fn four(e: &[u64], b: usize, id: u64) -> bool
+    requires { ⌜ b + 4 ≤ length (now e) ⌝ }
+    ensures { λ r. ⌜ Searched id (now (e .entry)) b (b + 4) r ⌝ }
+{
+    if e[b] % 4294967296 == id {
+        return true;
+    }
+    if e[b + 1] % 4294967296 == id {
+        return true;
+    }
+    if e[b + 2] % 4294967296 == id {
+        return true;
+    }
+    if e[b + 3] % 4294967296 == id {
+        return true;
+    }
+    false
+}
+
+// Whether the thread id is among the first n, of which there are three at most.
+fn has_three(e: &[u64], n: usize, id: u64) -> bool
+    requires { ⌜ n ≤ length (now e) ⌝ }
+    ensures { λ r. ⌜ Searched id (now (e .entry)) 0 n r ⌝ }
+{
+    let mut i = 0;
+    while i < n {
+        if e[i] % 4294967296 == id {
+            return true;
+        }
+        i += 1;
+    }
+    false
+}
+
+// Four at a time; the last four may overlap those before.
+fn has_few(e: &[u64], n: usize, id: u64) -> bool
+    requires { ⌜ (n ≤ length (now e)) × (4 ≤ n) ⌝ }
+    ensures { λ r. ⌜ Searched id (now (e .entry)) 0 n r ⌝ }
+{
+    let mut i = 0;
+    while i + 4 < n {
+        if four(e, i, id) {
+            return true;
+        }
+        i += 4;
+    }
+    four(e, n - 4, id)
+}
+
+// All of them, with no early exit, so that several are compared at a time.
+fn has_many(e: &[u64], n: usize, id: u64) -> bool
     requires { ⌜ n ≤ length (now e) ⌝ }
     ensures { λ r. ⌜ r ≡ holds id (waiting (now (e .entry)) n) ⌝ }
 {
@@ -97,6 +147,20 @@ fn has(e: &[u64], n: usize, id: u64) -> bool
         i += 1;
     }
     hit
+}
+
+// Whether the thread id is among the first n.
+fn has(e: &[u64], n: usize, id: u64) -> bool
+    requires { ⌜ n ≤ length (now e) ⌝ }
+    ensures { λ r. ⌜ r ≡ holds id (waiting (now (e .entry)) n) ⌝ }
+{
+    if n < 4 {
+        return has_three(e, n, id);
+    }
+    if n < 16 {
+        return has_few(e, n, id);
+    }
+    has_many(e, n, id)
 }
 
 // Two at a time: entries that are to be woken before a new one of priority p, whose greatest entry is top, move up by one.
@@ -159,9 +223,11 @@ pub fn pend(len: &mut u32, e: &mut [u64], id: u32, priority: u32, state: u32) ->
     if !fits(n, e) {
         return EINVAL;
     }
-    let c = caller(priority, state);
-    if c < 0 {
-        return c;
+    if state != RUNNING {
+        return caller(priority, state);
+    }
+    if MAX_PRIORITY <= priority {
+        return EINVAL;
     }
     let m = seq::wide(n);
     if has(e, m, id as u64) {

@@ -1,2 +1,4 @@
 // The C interface: include/waitqueue.h.
+pub mod queues;
+pub mod semaphores;
 pub mod threads;

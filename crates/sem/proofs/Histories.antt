@@ -1,0 +1,101 @@
+-- Any sequence of calls keeps what a semaphore promises. Assumes nothing.
+use mathlib.Core.Path.{_≡_, refl, sym, ap, _∙_}
+use mathlib.Core.Bool.{Bool, true, false, cond}
+use mathlib.Core.List.{List, [], _∷_, map}
+use Prim.Native.Nat.{ℕ, suc, _-_, _≤_, _<_}
+use native.Mathlib.Omega.{arith}
+use lib.Dec.{ltb, leb}
+use lib.IntN.{ℤ, pos, negsuc}
+use lib.ListN.{length}
+use borrow.Author.Tests.{ltb-true}
+use Rattle.seq.specs.List.{any}
+use Rattle.thread.specs.Caller.{callerCode}
+use Rattle.wait_queue.specs.Queue.{ident, entry}
+use Rattle.wait_queue.specs.Turn.{parked}
+use Rattle.kind.specs.Verdict.{upTo, Verdict, deny, allow, keep, park, wake}
+use Rattle.kind.specs.Object.{Out, refused, settled, Caller, anyone, thread, name, code, carried, asked, call}
+use Rattle.kind.specs.History.{Object, Event, calls, asks, leaves, happens, next, run, Good, Lasting}
+use Rattle.kind.proofs.Histories.{always}
+use Rattle.sem.specs.Sem.{Sem, Call, give, take, tryTake, reset, formed, decide, sem-kind}
+use Rattle.sem.specs.Post.{plain}
+use Rattle.sem.specs.History.{fresh, after, Promise}
+use Rattle.sem.proofs.Law.{mk, Fine, is-fine, idle, sem-lawful}
+
+-- no call changes the limit
+abbrev Limits : ℕ → Verdict Sem (Unit {0}) → Type 0
+Limits l (deny r) = Unit {0}
+Limits l (allow m a r) = m .limit ≡ l
+
+decides : (c l : ℕ) (v : ℕ → Unit {0}) (q : List ℕ) (w : ℕ) (k : Call) → Limits l (decide (mk c l) v q w k)
+decides c l v q w give = go (any q) (ltb c l)
+  where
+    go : (a b : Bool) → Limits l (cond a (allow (mk c l) (wake (upTo 1) (λ t. pos 0)) (pos 0)) (cond b (allow (mk (suc c) l) keep (pos 1)) (allow (mk c l) keep (pos 2))))
+    go true b = refl
+    go false true = refl
+    go false false = refl
+decides c l v q w take = go (ltb 0 c)
+  where
+    go : (b : Bool) → Limits l (cond b (allow (mk (c - 1) l) keep (pos 0)) (allow (mk c l) (park tt) (pos 1)))
+    go true = refl
+    go false = refl
+decides c l v q w tryTake = go (ltb 0 c)
+  where
+    go : (b : Bool) → Limits l (cond b (allow (mk (c - 1) l) keep (pos 0)) (deny (negsuc 15)))
+    go true = refl
+    go false = tt
+decides c l v q w reset = refl
+
+module _ (c l : ℕ) (q : List ℕ) where
+  does : (w : Caller) (d : Verdict Sem (Unit {0})) → Limits l d → carried w d (mk c l) q .num .limit ≡ l
+  does w (deny r) h = refl
+  does w (allow m keep r) h = h
+  does anyone (allow m (park x) r) h = refl
+  does (thread i p st) (allow m (park x) r) h = go (parked (entry p i) q .code)
+    where
+      go : (z : ℤ) → settled z m (mk c l) .limit ≡ l
+      go (pos n) = h
+      go (negsuc n) = refl
+  does w (allow m (wake p f) r) h = h
+
+  asks-limit : (z : ℤ) (o : Out Sem) → o .num .limit ≡ l → asked z (mk c l) q o .num .limit ≡ l
+  asks-limit (pos n) o h = h
+  asks-limit (negsuc n) o h = refl
+
+  either : (b : Bool) (o : Out Sem) → o .num .limit ≡ l → cond b o (refused (negsuc 21) (mk c l) q) .num .limit ≡ l
+  either true o h = h
+  either false o h = refl
+
+  abbrev verdict : Caller → Call → Verdict Sem (Unit {0})
+  verdict w k = decide (mk c l) plain (map ident q) (name w) k
+
+  calls-limit : (w : Caller) (k : Call) → call sem-kind plain w k (mk c l) q .num .limit ≡ l
+  calls-limit w k =
+      either (formed (mk c l) (any q)) (asked (code w) (mk c l) q (carried w (verdict w k) (mk c l) q))
+      (asks-limit (code w) (carried w (verdict w k) (mk c l) q) (does w (verdict w k) (decides c l plain (map ident q) (name w) k)))
+
+pub limit-next : (s : Object Sem) (x : Event Call) → next sem-kind plain s x .num .limit ≡ s .num .limit
+limit-next s (calls k) = calls-limit (s .num .count) (s .num .limit) (s .queue) anyone k
+limit-next s (asks i p st h k) = calls-limit (s .num .count) (s .num .limit) (s .queue) (thread i p st) k
+limit-next s (leaves i) = refl
+
+limit-run : (s : Object Sem) (xs : List (Event Call)) → run sem-kind plain s xs .num .limit ≡ s .num .limit
+limit-run s [] = refl
+limit-run s (x ∷ xs) = limit-run (next sem-kind plain s x) xs ∙ limit-next s x
+
+somebody : (q : List ℕ) → 0 < length q → any q ≡ true
+somebody [] h = absurd (omega arith)
+somebody (x ∷ q) h = refl
+
+pub sem-history : (c l : ℕ) (xs : List (Event Call)) → c ≤ l → 0 < l → Promise c l xs
+sem-history c l xs h k =
+    let t : Lasting sem-kind plain (fresh c l) xs = always sem-kind sem-lawful plain (mk c l) xs (idle c l k h) in
+    let s : Object Sem = after c l xs in
+    let f = is-fine (s .num .count) (s .num .limit) (any (s .queue)) (t .good .numbers) in
+    record {
+      under = f .under;
+      limit = limit-run (fresh c l) xs;
+      idle = λ z. f .empty (somebody (s .queue) z);
+      sorted = t .good .queue .sorted;
+      single = t .good .queue .single;
+      stable = t .stable;
+    }

@@ -1,0 +1,5 @@
+pub mod Law
+pub mod Answers
+pub mod Histories
+pub mod Example
+pub mod Upstream

@@ -1,0 +1,300 @@
+-- Our contracts imply those of Gale's sem.rs. Assumes nothing.
+use mathlib.Core.Path.{_≡_, refl, sym, ap, _∙_, subst}
+use mathlib.Core.Bool.{Bool, true, false, cond}
+use mathlib.Core.Logic.{_⊎_, inl, inr}
+use mathlib.Core.List.{List, [], _∷_, map}
+use Prim.Native.Nat.{ℕ, zero, suc, _+_, _-_, _≤_, _<_}
+use native.Mathlib.Numerals.{add-one}
+use native.Mathlib.Omega.{arith}
+use lib.Dec.{ltb, leb}
+use lib.IntN.{ℤ, pos, negsuc}
+use lib.ListN.{length, getD, length-map}
+use borrow.Author.Tests.{lt-ltb, le-ltb, ltb-false, le-leb, leb-false}
+use Rattle.seq.specs.List.{any}
+use Rattle.seq.proofs.Back.{back-length}
+use Rattle.seq.proofs.Order.{clash, length-insert}
+use Rattle.thread.specs.Code.{ok, ebusy, einval}
+use Rattle.thread.specs.Priority.{maxPriority}
+use Rattle.thread.specs.Thread.{running}
+use Rattle.wait_queue.specs.Queue.{maxWaiters, entry, prio, ident, waiting, holds, joined, Well}
+use Rattle.wait_queue.specs.Turn.{waits}
+use Rattle.wait_queue.proofs.Answers.{ident-entry}
+use Rattle.kind.specs.Object.{Out, refused, anyone, thread, on, Does, sane}
+use Rattle.kind.specs.History.{Object, Event, calls, asks, happens, Good, Lasting}
+use Rattle.kind.proofs.Memory.{Housed, is-on, malformed, call-refuses, unchanged}
+use Rattle.kind.proofs.Histories.{always, step}
+use Rattle.sem.specs.Sem.{Sem, Call, give, take, tryTake, reset, formed, woke, incremented, saturated, sem-kind}
+use Rattle.sem.specs.Post.{layout, plain, giveOut, tryTakeOut, takeOut, resetOut, getOut, Started, GiveDecided, TakeDecided}
+use Rattle.sem.specs.Upstream.{Inv, Idle, GiveDecide, TakeDecide, Init, Give, TryTake, TakeBlocking, Reset, CountGet, LimitGet, NumWaiters}
+use Rattle.sem.specs.History.{fresh, after}
+use Rattle.sem.proofs.Law.{mk, Fine, is-fine, fine-is, idle, sem-lawful}
+use Rattle.sem.proofs.Answers.{reset-malformed, get-malformed}
+use Rattle.sem.proofs.Histories.{limit-next, sem-history}
+
+-- decide functions
+pub give-decide : (c l : ℕ) (w : Bool) (r : ℤ) → 0 < l → c ≤ l → (w ≡ true → c ≡ 0) → GiveDecided c l w r → GiveDecide c l w r
+give-decide c l true r a b z d =
+    record {
+      wakes = λ q. d (0 ∷ []) refl ∙ rw (fine-is c l true a b z);
+      increments = λ q. clash q;
+      saturates = λ q. clash q;
+    }
+give-decide c l false r a b z d =
+    record {
+      wakes = λ q. clash (sym q);
+      increments = λ q k. d [] refl ∙ rw (idle c l a b, lt-ltb c l k);
+      saturates = λ q k. d [] refl ∙ rw (idle c l a b, le-ltb c l k);
+    }
+
+pub decide-refuses : (c l : ℕ) (w : Bool) (r : ℤ) → formed (mk c l) w ≡ false → GiveDecided c l w r → r ≡ einval
+decide-refuses c l true r f d = d (0 ∷ []) refl ∙ rw f
+decide-refuses c l false r f d = d [] refl ∙ rw f
+
+pub take-decide : (c : ℕ) (w : Bool) (r : ℤ) → TakeDecided c w r → TakeDecide c w r
+take-decide c w r d = record { acquires = takes w d; blocks = busy w d; pends = wait w d }
+  where
+    f : formed (mk c (suc c)) false ≡ true
+    f = idle c (suc c) (omega arith) (omega arith)
+
+    takes : (u : Bool) → TakeDecided c u r → 0 < c → r ≡ ok
+    takes true t k = t (suc c) [] f ∙ rw (f, lt-ltb 0 c k)
+    takes false t k = t (suc c) [] f ∙ rw (f, lt-ltb 0 c k)
+
+    busy : (u : Bool) → TakeDecided c u r → c ≡ 0 → u ≡ true → r ≡ ebusy
+    busy true t z q = let y : c ≤ 0 = omega arith in t (suc c) [] f ∙ rw (f, le-ltb 0 c y)
+    busy false t z q = clash (sym q)
+
+    wait : (u : Bool) → TakeDecided c u r → c ≡ 0 → u ≡ false → r ≡ waits
+    wait true t z q = clash q
+    wait false t z q = let y : c ≤ 0 = omega arith in t (suc c) [] f ∙ rw (f, le-ltb 0 c y)
+
+-- init
+well-none : Well []
+well-none = record { short = omega arith; sorted = tt; valid = tt; single = tt }
+
+pub sem-init : (c l : ℕ) (h : List ℕ) (r : ℤ) (h' e : List ℕ) → 3 ≤ length h → Started c l h r h' → Init c l r (layout .num h') (waiting e (getD h' 2 0))
+sem-init c l h r h' e k s = go (formed (mk c l) false) refl
+  where
+    code : r ≡ cond (formed (mk c l) false) ok einval
+    code = s .code ∙ rw (le-leb 3 (length h) k)
+
+    never : (r ≡ ok → ⊥) → formed (mk c l) false ≡ true → ⊥
+    never n f = n (code ∙ rw f)
+
+    why : formed (mk c l) false ≡ false → (l ≡ 0) ⊎ (l < c)
+    why f = by (ltb 0 l) (leb c l) refl refl
+      where
+        by : (a b : Bool) → ltb 0 l ≡ a → leb c l ≡ b → (l ≡ 0) ⊎ (l < c)
+        by false b x y = inl (let z : l ≤ 0 = ltb-false 0 l x in omega arith)
+        by true false x y = inr (leb-false c l y)
+        by true true x y = clash (rw (x, y) at f)
+
+    go : (b : Bool) → formed (mk c l) false ≡ b → Init c l r (layout .num h') (waiting e (getD h' 2 0))
+    go true f =
+        let n : Fine c l false = is-fine c l false f in
+        let m = s .made (code ∙ rw f) in
+        rw (m .0, m .1 e)
+        (record {
+          inv = λ q. record { limited = n .limited; under = n .under; queue = well-none };
+          counted = λ q. refl;
+          limited = λ q. refl;
+          empty = λ q. refl;
+          code = λ q. absurd (never q f);
+          reason = λ q. absurd (never q f);
+        })
+    go false f =
+        let no : r ≡ ok → ⊥ = λ q. let z : einval ≡ ok = sym (code ∙ rw f) ∙ q in let y : _≡_ {A = ℕ} 0 1 = cc in omega arith in
+        record {
+          inv = λ q. absurd (no q);
+          counted = λ q. absurd (no q);
+          limited = λ q. absurd (no q);
+          empty = λ q. absurd (no q);
+          code = λ q. code ∙ rw f;
+          reason = λ q. why f;
+        }
+
+-- what a function on memory ensures, read off at its end
+module _ (f : Sem → List ℕ → Out Sem) (P : ℤ → Sem → List ℕ → Type 0) (h e : List ℕ) (r : ℤ) (h' e' : List ℕ) where
+  abbrev o : Out Sem
+  o = f (layout .num h) (waiting e (getD h 2 0))
+
+  seen : Does layout f h e r h' e' → Housed layout h e → P (o .turn .code) (o .num) (o .turn .queue) → P r (layout .num h') (waiting e' (getD h' 2 0))
+  seen d m p =
+      let q = is-on layout f h e m in
+      rw (d .code ∙ ap (λ (x : Out Sem). x .turn .code) q, d .num ∙ ap (λ (x : Out Sem). x .num) q, d .queue ∙ ap (λ (x : Out Sem). x .turn .queue) q) p
+
+-- the invariant with what it leaves out is our own
+module _ (c l : ℕ) (q : List ℕ) (i : Inv (mk c l) q) (z : Idle (mk c l) q) where
+  filled : any q ≡ true → 0 < length q
+  filled = go q
+    where
+      go : (m : List ℕ) → any m ≡ true → 0 < length m
+      go [] h = clash (sym h)
+      go (x ∷ m) h = omega arith
+
+  form : formed (mk c l) (any q) ≡ true
+  form = fine-is c l (any q) (i .limited) (i .under) (λ h. z (filled h))
+
+  good : Good sem-kind plain (record { num = mk c l; queue = q })
+  good = record { numbers = form; queue = i .queue }
+
+  -- after an event, too
+  inv-of : (n : Sem) (m : List ℕ) → formed n (any m) ≡ true → Well m → Inv n m
+  inv-of n m f w = let k = is-fine (n .count) (n .limit) (any m) f in record { limited = k .limited; under = k .under; queue = w }
+
+  inv-after : (x : Event Call) → Inv (happens sem-kind plain (record { num = mk c l; queue = q }) x .num) (happens sem-kind plain (record { num = mk c l; queue = q }) x .turn .queue)
+  inv-after x = let t = step sem-kind sem-lawful plain (record { num = mk c l; queue = q }) x good in inv-of _ _ (t .numbers) (t .queue)
+
+  gives : Give (mk c l) q (giveOut (mk c l) q .turn .code) (giveOut (mk c l) q .num) (giveOut (mk c l) q .turn .queue)
+  gives =
+      record {
+        inv = inv-after (calls give);
+        limit = limit-next (record { num = mk c l; queue = q }) (calls give);
+        increments = up q form;
+        saturates = full q form;
+        kept = same q form;
+        fewer = less q form;
+      }
+    where
+      up : (m : List ℕ) → formed (mk c l) (any m) ≡ true → length m ≡ 0 → c < l → giveOut (mk c l) m .num .count ≡ c + 1
+      up [] f n k = rw (f, lt-ltb c l k) (sym (add-one c))
+      up (x ∷ m) f n k = absurd (omega arith)
+
+      full : (m : List ℕ) → formed (mk c l) (any m) ≡ true → length m ≡ 0 → c ≡ l → giveOut (mk c l) m .num .count ≡ c
+      full [] f n k = let y : l ≤ c = omega arith in rw (f, le-ltb c l y)
+      full (x ∷ m) f n k = absurd (omega arith)
+
+      same : (m : List ℕ) → formed (mk c l) (any m) ≡ true → 0 < length m → giveOut (mk c l) m .num .count ≡ c
+      same [] f n = absurd (omega arith)
+      same (x ∷ m) f n = rw f
+
+      less : (m : List ℕ) → formed (mk c l) (any m) ≡ true → 0 < length m → length (giveOut (mk c l) m .turn .queue) ≡ length m - 1
+      less [] f n = absurd (omega arith)
+      less (x ∷ m) f n = rw f (omega arith)
+
+  tries : TryTake (mk c l) q (tryTakeOut (mk c l) q .turn .code) (tryTakeOut (mk c l) q .num) (tryTakeOut (mk c l) q .turn .queue)
+  tries =
+      record {
+        inv = inv-after (calls tryTake);
+        limit = limit-next (record { num = mk c l; queue = q }) (calls tryTake);
+        waiters = stay (ltb 0 c) refl;
+        taken = λ k. rw (form, lt-ltb 0 c k);
+        acquired = λ k. rw (form, lt-ltb 0 c k);
+        kept = λ k. let y : c ≤ 0 = omega arith in rw (form, le-ltb 0 c y);
+        blocked = λ k. let y : c ≤ 0 = omega arith in rw (form, le-ltb 0 c y);
+      }
+    where
+      stay : (b : Bool) → ltb 0 c ≡ b → length (tryTakeOut (mk c l) q .turn .queue) ≡ length q
+      stay true y = rw (form, y)
+      stay false y = rw (form, y)
+
+  module _ (j p : ℕ) (small : j < 4294967296) (v : p < maxPriority) (n : c ≡ 0) (room : length q < maxWaiters) (absent : holds j q ≡ false) where
+    -- the thread joins
+    pub waits-now : takeOut j p running (mk c l) q ≡ record { num = mk c l; turn = record { code = waits; queue = joined (entry p j) q; woken = [] } }
+    waits-now =
+        let y : c ≤ 0 = omega arith in
+        rw (form, lt-ltb p maxPriority v, le-ltb 0 c y, ident-entry p j small, absent, lt-ltb (length q) maxWaiters room)
+
+    blocks : TakeBlocking (mk c l) q (takeOut j p running (mk c l) q .turn .code) (takeOut j p running (mk c l) q .num) (takeOut j p running (mk c l) q .turn .queue)
+    blocks =
+        let t = waits-now in
+        record {
+          inv = inv-after (asks j p running small take);
+          limit = ap (λ (o : Out Sem). o .num .limit) t;
+          count = ap (λ (o : Out Sem). o .num .count) t;
+          joined = λ k. ap (λ (o : Out Sem). length (o .turn .queue)) t ∙ length-insert prio (entry p j) q ∙ sym (add-one (length q));
+          stayed = λ k. absurd (k (ap (λ (o : Out Sem). o .turn .code) t));
+        }
+
+  resets : (room : ℕ) → length q ≤ room
+      → Reset (mk c l) q (resetOut room (mk c l) q .turn .code) (resetOut room (mk c l) q .num) (resetOut room (mk c l) q .turn .queue)
+  resets room k =
+      rw (le-leb (length q) room k)
+      (record {
+        inv = inv-after (calls reset);
+        count = rw form;
+        limit = rw form;
+        empty = rw form;
+        woken = rw form (ap pos (length-map q ident));
+      })
+
+-- the functions on memory
+module _ (h e : List ℕ) (r : ℤ) (h' e' : List ℕ) (m : Housed layout h e) (i : Inv (layout .num h) (waiting e (getD h 2 0))) (z : Idle (layout .num h) (waiting e (getD h 2 0))) where
+  pub sem-give : Does layout giveOut h e r h' e' → Give (layout .num h) (waiting e (getD h 2 0)) r (layout .num h') (waiting e' (getD h' 2 0))
+  sem-give d = seen giveOut (Give (layout .num h) (waiting e (getD h 2 0))) h e r h' e' d m (gives (getD h 0 0) (getD h 1 0) (waiting e (getD h 2 0)) i z)
+
+  pub sem-try-take : Does layout tryTakeOut h e r h' e' → TryTake (layout .num h) (waiting e (getD h 2 0)) r (layout .num h') (waiting e' (getD h' 2 0))
+  sem-try-take d = seen tryTakeOut (TryTake (layout .num h) (waiting e (getD h 2 0))) h e r h' e' d m (tries (getD h 0 0) (getD h 1 0) (waiting e (getD h 2 0)) i z)
+
+  pub sem-take-blocking : (j p : ℕ) → j < 4294967296 → p < maxPriority → getD h 0 0 ≡ 0 → length (waiting e (getD h 2 0)) < maxWaiters → holds j (waiting e (getD h 2 0)) ≡ false
+      → Does layout (takeOut j p running) h e r h' e' → TakeBlocking (layout .num h) (waiting e (getD h 2 0)) r (layout .num h') (waiting e' (getD h' 2 0))
+  sem-take-blocking j p s v n w a d =
+      seen (takeOut j p running) (TakeBlocking (layout .num h) (waiting e (getD h 2 0))) h e r h' e' d m
+      (blocks (getD h 0 0) (getD h 1 0) (waiting e (getD h 2 0)) i z j p s v n w a)
+
+  pub sem-reset : (room : ℕ) → length (waiting e (getD h 2 0)) ≤ room → Does layout (resetOut room) h e r h' e'
+      → Reset (layout .num h) (waiting e (getD h 2 0)) r (layout .num h') (waiting e' (getD h' 2 0))
+  sem-reset room k d =
+      seen (resetOut room) (Reset (layout .num h) (waiting e (getD h 2 0))) h e r h' e' d m (resets (getD h 0 0) (getD h 1 0) (waiting e (getD h 2 0)) i z room k)
+
+  gets : (g : Sem → List ℕ → ℕ) → r ≡ on layout (getOut g) h e .turn .code → r ≡ pos (g (layout .num h) (waiting e (getD h 2 0)))
+  gets g d = d ∙ rw (is-on layout (getOut g) h e m, form (getD h 0 0) (getD h 1 0) (waiting e (getD h 2 0)) i z)
+
+  pub count-get : r ≡ on layout (getOut (λ s q. s .count)) h e .turn .code → CountGet (layout .num h) r
+  count-get d = record { is = gets (λ s q. s .count) d; under = i .under }
+
+  pub limit-get : r ≡ on layout (getOut (λ s q. s .limit)) h e .turn .code → LimitGet (layout .num h) r
+  limit-get d = record { is = gets (λ s q. s .limit) d; above = i .limited }
+
+  pub num-waiters : r ≡ on layout (getOut (λ s q. length q)) h e .turn .code → NumWaiters (waiting e (getD h 2 0)) r
+  num-waiters d = gets (λ s q. length q) d
+
+-- what upstream demands is refused here: a header that is not as it should be
+module _ (h e : List ℕ) (r : ℤ) (h' e' : List ℕ) (s : sane sem-kind layout h e ≡ false) where
+  abbrev Stays : Type 0
+  Stays = (r ≡ einval) × (h' ≡ h) × (e' ≡ e)
+
+  stays : (f : Sem → List ℕ → Out Sem) → ((n : Sem) (q : List ℕ) → formed n (any q) ≡ false → f n q ≡ refused einval n q) → Does layout f h e r h' e' → Stays
+  stays f k d = unchanged layout f h e r h' e' 21 d (ap (λ (o : Out Sem). o .turn .code) (malformed sem-kind layout h e f k s))
+
+  pub give-refuses : Does layout giveOut h e r h' e' → Stays
+  give-refuses d = stays giveOut (call-refuses sem-kind layout h e plain anyone give) d
+
+  pub try-take-refuses : Does layout tryTakeOut h e r h' e' → Stays
+  try-take-refuses d = stays tryTakeOut (call-refuses sem-kind layout h e plain anyone tryTake) d
+
+  pub take-refuses : (j p st : ℕ) → Does layout (takeOut j p st) h e r h' e' → Stays
+  take-refuses j p st d = stays (takeOut j p st) (call-refuses sem-kind layout h e plain (thread j p st) take) d
+
+  pub reset-refuses : (room : ℕ) → Does layout (resetOut room) h e r h' e' → Stays
+  reset-refuses room d = stays (resetOut room) (reset-malformed room) d
+
+  pub get-refuses : (g : Sem → List ℕ → ℕ) → r ≡ on layout (getOut g) h e .turn .code → r ≡ einval
+  get-refuses g d = d ∙ ap (λ (o : Out Sem). o .turn .code) (malformed sem-kind layout h e (getOut g) (get-malformed g) s)
+
+-- upstream's lemmas
+-- lemma_invariant_inductive claims this in its comment: init makes the invariant, and every operation keeps it
+pub invariant-inductive : (c l : ℕ) (xs : List (Event Call)) → c ≤ l → 0 < l → Inv (after c l xs .num) (after c l xs .queue) × Idle (after c l xs .num) (after c l xs .queue)
+invariant-inductive c l xs h k =
+    let t : Lasting sem-kind plain (fresh c l) xs = always sem-kind sem-lawful plain (mk c l) xs (idle c l k h) in
+    let f = is-fine (after c l xs .num .count) (after c l xs .num .limit) (any (after c l xs .queue)) (t .good .numbers) in
+    (record { limited = f .limited; under = f .under; queue = t .good .queue }, sem-history c l xs h k .idle)
+
+-- lemma_give_take_roundtrip, on the semaphore and not on a number: a give, then a take, is the semaphore as it was
+pub give-take-roundtrip : (c l : ℕ) → c < l → (giveOut (mk c l) [] .num ≡ mk (suc c) l) × (tryTakeOut (mk (suc c) l) [] .num ≡ mk c l) × (tryTakeOut (mk (suc c) l) [] .turn .code ≡ ok)
+give-take-roundtrip c l h =
+    let f : formed (mk c l) false ≡ true = idle c l (omega arith) (omega arith) in
+    let g : formed (mk (suc c) l) false ≡ true = idle (suc c) l (omega arith) h in (
+      rw (f, lt-ltb c l h),
+      rw (g, lt-ltb 0 (suc c) (omega arith)) (ap (λ (x : ℕ). mk x l) (omega arith)),
+      rw (g, lt-ltb 0 (suc c) (omega arith)),
+    )
+
+-- lemma_give_saturation: a give never brings the count above the limit
+pub give-saturation : (c l : ℕ) (q : List ℕ) → Inv (mk c l) q → Idle (mk c l) q → giveOut (mk c l) q .num .count ≤ l
+give-saturation c l q i z = let g = gives c l q i z in omega (arith, g .inv .under, g .limit)
+
+-- lemma_reset_returns_to_clean_state claims this in its comment: a reset semaphore is a new one with count 0
+pub reset-clean : (c l room : ℕ) (q : List ℕ) → Inv (mk c l) q → Idle (mk c l) q → length q ≤ room
+    → (resetOut room (mk c l) q .num ≡ fresh 0 l .num) × (resetOut room (mk c l) q .turn .queue ≡ fresh 0 l .queue)
+reset-clean c l room q i z k = rw (le-leb (length q) room k, form c l q i z) (refl, refl)

@@ -1,0 +1,5 @@
+pub mod Sem
+pub mod Post
+pub mod History
+pub mod Worked
+pub mod Upstream

@@ -1,0 +1,95 @@
+/* Runs all tests. The last line is "N passed, M failed".
+ *
+ * SPDX-License-Identifier: Apache-2.0
+ */
+#include <inttypes.h>
+#include <stdio.h>
+#include <string.h>
+
+#include "check.h"
+
+struct memory m;
+static struct memory kept;
+static bool faulty;
+
+void check(bool holds, const char *file, int line, const char *what)
+{
+    if (holds)
+        return;
+    faulty = true;
+    printf("%s:%d: not so: %s\n", file, line, what);
+}
+
+void check_equal(int64_t got, int64_t wanted, const char *file, int line, const char *what)
+{
+    if (got == wanted)
+        return;
+    faulty = true;
+    printf("%s:%d: not so: %s; %" PRId64 " and %" PRId64 "\n", file, line, what, got, wanted);
+}
+
+void keep(void) { memcpy(&kept, &m, sizeof m); }
+
+bool stays(void) { return memcmp(&kept, &m, sizeof m) == 0; }
+
+static bool filled(const void *from, const void *to)
+{
+    for (const unsigned char *p = from; p < (const unsigned char *)to; p++)
+        if (*p != FILL)
+            return false;
+    return true;
+}
+
+static bool guards_stay(void)
+{
+    return filled(&m.first, &m.thread) && filled(&m.second, &m.queue) && filled(&m.queue.len + 1, m.queue.entry) &&
+           filled(&m.third, &m.sem) && filled(m.sem.head + 3, m.sem.entry) && filled(&m.fourth, &m.who) &&
+           filled(&m.fifth, m.out) && filled(&m.last, &m + 1);
+}
+
+struct wq_thread *running(uint32_t id, uint32_t priority)
+{
+    m.thread = (struct wq_thread){id, priority, WQ_RUNNING, 0};
+    return &m.thread;
+}
+
+bool queue_is(const uint64_t *entry, uint32_t len, const uint32_t *ids, size_t count)
+{
+    if (len != count)
+        return false;
+    for (size_t i = 0; i < count; i++)
+        if ((uint32_t)entry[count - 1 - i] != ids[i])
+            return false;
+    return true;
+}
+
+bool handed_out(int32_t result, const uint32_t *ids, size_t count)
+{
+    for (size_t i = 0; i < count; i++)
+        if (wq_woken_id(m.out[i]) != ids[i] || wq_woken_result(m.out[i]) != result)
+            return false;
+    return memcmp(&m.out[count], &kept.out[count], (PLACE - count) * sizeof m.out[0]) == 0;
+}
+
+int main(void)
+{
+    const struct group *groups[] = {&thread_group, &wait_queue_group, &sem_group};
+    unsigned passed = 0, failed = 0;
+
+    for (size_t g = 0; g < sizeof groups / sizeof groups[0]; g++) {
+        for (size_t i = 0; i < groups[g]->count; i++) {
+            const struct test *test = &groups[g]->tests[i];
+            faulty = false;
+            memset(&m, FILL, sizeof m);
+            test->run();
+            CHECK(guards_stay());
+            printf("%s %s: %s\n", groups[g]->name, test->name, faulty ? "FAILED" : "ok");
+            if (faulty)
+                failed++;
+            else
+                passed++;
+        }
+    }
+    printf("%u passed, %u failed\n", passed, failed);
+    return failed != 0;
+}
