@@ -22,6 +22,7 @@ pub enum Change<const N: usize> {
     /// These header words; the entries stay.
     Head([u32; N]),
     Joined(Caller),
+    /// Every entry of this thread is out; a queue as it should be has one.
     Removed(u32),
 }
 
@@ -129,7 +130,7 @@ fn changed_right<const N: usize>(before: &Memory<N>, after: &Memory<N>, change: 
             let grown = has_one_more(&new, &old, |entry| entry == entry_of(caller));
             numbers_stay && grown && stands_well(&old, &new, caller)
         }
-        Change::Removed(id) => numbers_stay && has_one_more(&old, &new, |entry| id_of(entry) == id),
+        Change::Removed(id) => numbers_stay && old.iter().copied().filter(|&entry| id_of(entry) != id).eq(new.iter().copied()),
     }
 }
 
