@@ -3,7 +3,10 @@
  * Every function takes any numbers and any memory contents, malformed ones too. It refuses with a
  * code below 0, and a refusal leaves every word as it was. Nothing is allocated, nothing blocks:
  * an answer WQ_WAITS tells the scheduler to stop the caller, and a woken thread is handed out for
- * the scheduler to make ready. Calls on one object must not overlap in time.
+ * the scheduler to make ready.
+ *
+ * What the caller has to see to: calls on one object do not overlap in time, pointers are valid, and
+ * what a call writes through one pointer (*who, out) does not overlap what it reaches through another.
  *
  * SPDX-License-Identifier: Apache-2.0
  */
@@ -121,7 +124,7 @@ static inline int32_t wq_pend(struct wq_wait_queue *q, struct wq_thread *t)
         t->state = WQ_BLOCKED;
     return r;
 }
-/* 1: *who was the first and is to be made ready with return_value; 0: nobody waits; WQ_EINVAL. */
+/* 1: *who was the first and is to be made ready with return_value; 0: nobody waits; WQ_EINVAL. *who is written on 1 only. */
 static inline int32_t wq_unpend_first(struct wq_wait_queue *q, int32_t return_value, wq_woken *who)
 {
     return wq_wait_queue_unpend_first(&q->len, q->entry, return_value, who);

@@ -1,14 +1,14 @@
 -- Any sequence of calls on one object of any lawful kind.
 use mathlib.Core.Path.{_≡_}
-use mathlib.Core.Bool.{Bool, true, false, cond}
+use mathlib.Core.Bool.{Bool, true, cond}
 use mathlib.Core.List.{List, [], _∷_, _++_}
 use Prim.Native.Nat.{ℕ, _<_}
 use lib.Dec.{eqb}
 use Rattle.seq.specs.List.{any, chosen, Sub}
 use Rattle.wait_queue.specs.Queue.{entry, prio, holds, Well}
-use Rattle.wait_queue.specs.Turn.{Turn, remove}
+use Rattle.wait_queue.specs.Turn.{remove}
 use Rattle.kind.specs.Kind.{Kind}
-use Rattle.kind.specs.Object.{Out, Caller, anyone, thread, call}
+use Rattle.kind.specs.Object.{Out, anyone, thread, call}
 
 pub record Object (N : Type 0) : Type 0 where
   pub num : N

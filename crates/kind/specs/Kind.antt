@@ -6,7 +6,7 @@ use Prim.Native.Nat.{ℕ}
 use lib.IntN.{ℤ}
 use Rattle.seq.specs.List.{any, All}
 use Rattle.thread.specs.Code.{einval}
-use Rattle.kind.specs.Verdict.{gone, left, Act, keep, park, wake, Verdict, deny, allow}
+use Rattle.kind.specs.Verdict.{gone, left, keep, park, wake, Verdict, deny, allow}
 
 pub record Kind : Type 1 where
   pub Num : Type 0

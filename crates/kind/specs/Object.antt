@@ -1,7 +1,7 @@
 -- An object: its numbers and its queue; in memory, a header and entries. What a call does to it.
 use mathlib.Core.Path.{_≡_}
 use mathlib.Core.Bool.{Bool, true, false, cond}
-use mathlib.Core.List.{List, [], _∷_, map}
+use mathlib.Core.List.{List, [], map}
 use Prim.Native.Nat.{ℕ}
 use lib.Dec.{ltb, leb}
 use lib.IntN.{ℤ, pos, negsuc}
@@ -12,7 +12,7 @@ use Rattle.thread.specs.Caller.{callerCode}
 use Rattle.wait_queue.specs.Queue.{entry, ident, woken, waiting, roomy, Well}
 use Rattle.wait_queue.specs.Turn.{Turn, refuse, parked}
 use Rattle.wait_queue.specs.Post.{Refused}
-use Rattle.kind.specs.Verdict.{gone, left, Act, keep, park, wake, Verdict, deny, allow}
+use Rattle.kind.specs.Verdict.{gone, left, keep, park, wake, Verdict, deny, allow}
 use Rattle.kind.specs.Kind.{Kind}
 
 -- the numbers that a call leaves, and its turn at the queue

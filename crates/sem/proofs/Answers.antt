@@ -1,13 +1,13 @@
 -- How each answer of a function meets the semaphore's definition. Assumes nothing.
-use mathlib.Core.Path.{_≡_, refl, sym, ap, _∙_}
-use mathlib.Core.Bool.{Bool, true, false, cond}
-use mathlib.Core.List.{List, [], _∷_, _++_, map}
+use mathlib.Core.Path.{_≡_, refl, _∙_}
+use mathlib.Core.Bool.{Bool, true, false}
+use mathlib.Core.List.{List, [], map}
 use Prim.Native.Nat.{ℕ, zero, suc, _+_, _-_, _≤_, _<_}
 use native.Mathlib.Numerals.{add-one}
 use native.Mathlib.Omega.{arith}
-use lib.Dec.{ltb, leb, eqb}
+use lib.Dec.{ltb, leb}
 use lib.IntN.{ℤ, pos, negsuc}
-use lib.ListN.{length, getD, set, drop, length-set, length-map}
+use lib.ListN.{length, getD, set, length-set, length-map}
 use lib.Seq.{getD-set-same, getD-set-other, drop-set-lt}
 use borrow.Author.Tests.{lt-ltb, le-ltb, le-leb, lt-leb}
 use Rattle.seq.specs.List.{any}
@@ -16,15 +16,13 @@ use Rattle.seq.proofs.Order.{cond-same}
 use Rattle.thread.specs.Code.{ok, eagain, ebusy, einval}
 use Rattle.thread.specs.Caller.{callerCode}
 use Rattle.wait_queue.specs.Queue.{entry, ident, woken, waiting, roomy}
-use Rattle.wait_queue.specs.Turn.{Turn, refuse, at, parked, pend, unpendFirst, unpendAll}
+use Rattle.wait_queue.specs.Turn.{at, parked, pend, unpendFirst, unpendAll}
 use Rattle.wait_queue.specs.Post.{Told, Listed}
 use Rattle.wait_queue.specs.Post as queue
-use Rattle.kind.specs.Verdict.{answer}
-use Rattle.kind.specs.Kind.{judge}
-use Rattle.kind.specs.Object.{Out, refused, settled, anyone, thread, call, on, Does, sized, sane, Audited}
-use Rattle.kind.proofs.Memory.{Housed, Sane, is-sane, formed-queue, is-on, denied, renumbered, turned, followed, followed-out, malformed, rejected, call-refuses, unsized, sized-words, misnumbered, idle-sane, roomy-sane}
-use Rattle.sem.specs.Sem.{Sem, Call, give, take, tryTake, reset, formed, counting, woke, incremented, saturated, sem-kind}
-use Rattle.sem.specs.Post.{layout, plain, giveOut, tryTakeOut, takeOut, resetOut, getOut, Started, GiveDecided, TakeDecided, takeCall}
+use Rattle.kind.specs.Object.{Out, refused, settled, anyone, thread, on, Does, sized, sane}
+use Rattle.kind.proofs.Memory.{Sane, is-sane, formed-queue, is-on, denied, renumbered, turned, followed, followed-out, malformed, rejected, call-refuses, unsized, sized-words, misnumbered, idle-sane, roomy-sane}
+use Rattle.sem.specs.Sem.{Sem, give, take, tryTake, formed, counting, woke, incremented, saturated, sem-kind}
+use Rattle.sem.specs.Post.{layout, plain, giveOut, tryTakeOut, takeOut, resetOut, getOut, Started, GiveDecided, TakeDecided}
 use Rattle.sem.proofs.Law.{mk, Fine, is-fine, fine-is, idle, mixed, no-limit, over}
 
 -- on plain numbers

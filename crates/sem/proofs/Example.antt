@@ -1,7 +1,6 @@
 -- The worked run of document 01, computed. Assumes nothing.
 use mathlib.Core.Path.{_≡_, refl}
-use mathlib.Core.List.{List, [], _∷_}
-use Prim.Native.Nat.{ℕ}
+use mathlib.Core.List.{[], _∷_}
 use Rattle.thread.specs.Code.{ok}
 use Rattle.wait_queue.specs.Queue.{maxWaiters, entry, woken}
 use Rattle.sem.specs.Worked.{waiting-ids, count-at, wakes}

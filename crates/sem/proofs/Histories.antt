@@ -1,25 +1,23 @@
 -- Any sequence of calls keeps what a semaphore promises. Assumes nothing.
-use mathlib.Core.Path.{_≡_, refl, sym, ap, _∙_}
+use mathlib.Core.Path.{_≡_, refl, _∙_}
 use mathlib.Core.Bool.{Bool, true, false, cond}
 use mathlib.Core.List.{List, [], _∷_, map}
 use Prim.Native.Nat.{ℕ, suc, _-_, _≤_, _<_}
 use native.Mathlib.Omega.{arith}
-use lib.Dec.{ltb, leb}
+use lib.Dec.{ltb}
 use lib.IntN.{ℤ, pos, negsuc}
 use lib.ListN.{length}
-use borrow.Author.Tests.{ltb-true}
 use Rattle.seq.specs.List.{any}
-use Rattle.thread.specs.Caller.{callerCode}
 use Rattle.wait_queue.specs.Queue.{ident, entry}
 use Rattle.wait_queue.specs.Turn.{parked}
 use Rattle.kind.specs.Verdict.{upTo, Verdict, deny, allow, keep, park, wake}
 use Rattle.kind.specs.Object.{Out, refused, settled, Caller, anyone, thread, name, code, carried, asked, call}
-use Rattle.kind.specs.History.{Object, Event, calls, asks, leaves, happens, next, run, Good, Lasting}
+use Rattle.kind.specs.History.{Object, Event, calls, asks, leaves, next, run, Lasting}
 use Rattle.kind.proofs.Histories.{always}
 use Rattle.sem.specs.Sem.{Sem, Call, give, take, tryTake, reset, formed, decide, sem-kind}
 use Rattle.sem.specs.Post.{plain}
 use Rattle.sem.specs.History.{fresh, after, Promise}
-use Rattle.sem.proofs.Law.{mk, Fine, is-fine, idle, sem-lawful}
+use Rattle.sem.proofs.Law.{mk, is-fine, idle, sem-lawful}
 
 -- no call changes the limit
 abbrev Limits : ℕ → Verdict Sem (Unit {0}) → Type 0

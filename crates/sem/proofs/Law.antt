@@ -1,16 +1,15 @@
 -- The semaphore is a lawful kind. Assumes nothing.
-use mathlib.Core.Path.{_≡_, refl, sym, ap, _∙_}
+use mathlib.Core.Path.{_≡_, refl, sym, _∙_}
 use mathlib.Core.Bool.{Bool, true, false, cond}
-use mathlib.Core.List.{List, [], _∷_, map}
-use Prim.Native.Nat.{ℕ, zero, suc, _-_, _≤_, _<_}
+use mathlib.Core.List.{List, [], _∷_}
+use Prim.Native.Nat.{ℕ, suc, _-_, _≤_, _<_}
 use native.Mathlib.Omega.{arith}
 use lib.Dec.{ltb, leb, eqb}
-use lib.ListN.{drop}
 use borrow.Author.Tests.{lt-ltb, le-ltb, ltb-true, ltb-false, le-leb, lt-leb, leb-true, eq-eqb, ne-eqb, eqb-true}
 use Rattle.seq.specs.List.{any, All}
 use Rattle.seq.proofs.Order.{clash, cond-same}
 use Rattle.thread.specs.Code.{eagain}
-use Rattle.kind.specs.Kind.{Kind, Lawful, Rightly, Sound, Right}
+use Rattle.kind.specs.Kind.{Lawful, Rightly, Sound, Right}
 use Rattle.sem.specs.Sem.{Sem, Call, give, take, tryTake, reset, formed, decide, sem-kind}
 
 abbrev pub mk : ℕ → ℕ → Sem

@@ -1,17 +1,16 @@
 -- Our contracts imply those of Gale's sem.rs. Assumes nothing.
-use mathlib.Core.Path.{_≡_, refl, sym, ap, _∙_, subst}
+use mathlib.Core.Path.{_≡_, refl, sym, ap, _∙_}
 use mathlib.Core.Bool.{Bool, true, false, cond}
 use mathlib.Core.Logic.{_⊎_, inl, inr}
-use mathlib.Core.List.{List, [], _∷_, map}
-use Prim.Native.Nat.{ℕ, zero, suc, _+_, _-_, _≤_, _<_}
+use mathlib.Core.List.{List, [], _∷_}
+use Prim.Native.Nat.{ℕ, suc, _+_, _-_, _≤_, _<_}
 use native.Mathlib.Numerals.{add-one}
 use native.Mathlib.Omega.{arith}
 use lib.Dec.{ltb, leb}
-use lib.IntN.{ℤ, pos, negsuc}
+use lib.IntN.{ℤ, pos}
 use lib.ListN.{length, getD, length-map}
 use borrow.Author.Tests.{lt-ltb, le-ltb, ltb-false, le-leb, leb-false}
 use Rattle.seq.specs.List.{any}
-use Rattle.seq.proofs.Back.{back-length}
 use Rattle.seq.proofs.Order.{clash, length-insert}
 use Rattle.thread.specs.Code.{ok, ebusy, einval}
 use Rattle.thread.specs.Priority.{maxPriority}
@@ -20,10 +19,10 @@ use Rattle.wait_queue.specs.Queue.{maxWaiters, entry, prio, ident, waiting, hol
 use Rattle.wait_queue.specs.Turn.{waits}
 use Rattle.wait_queue.proofs.Answers.{ident-entry}
 use Rattle.kind.specs.Object.{Out, refused, anyone, thread, on, Does, sane}
-use Rattle.kind.specs.History.{Object, Event, calls, asks, happens, Good, Lasting}
+use Rattle.kind.specs.History.{Event, calls, asks, happens, Good, Lasting}
 use Rattle.kind.proofs.Memory.{Housed, is-on, malformed, call-refuses, unchanged}
 use Rattle.kind.proofs.Histories.{always, step}
-use Rattle.sem.specs.Sem.{Sem, Call, give, take, tryTake, reset, formed, woke, incremented, saturated, sem-kind}
+use Rattle.sem.specs.Sem.{Sem, Call, give, take, tryTake, reset, formed, sem-kind}
 use Rattle.sem.specs.Post.{layout, plain, giveOut, tryTakeOut, takeOut, resetOut, getOut, Started, GiveDecided, TakeDecided}
 use Rattle.sem.specs.Upstream.{Inv, Idle, GiveDecide, TakeDecide, Init, Give, TryTake, TakeBlocking, Reset, CountGet, LimitGet, NumWaiters}
 use Rattle.sem.specs.History.{fresh, after}

@@ -2,9 +2,9 @@
 use mathlib.Core.Path.{_≡_}
 use mathlib.Core.Bool.{Bool, true, false, cond}
 use mathlib.Core.List.{List, []}
-use Prim.Native.Nat.{ℕ, suc}
+use Prim.Native.Nat.{ℕ}
 use lib.Dec.{leb}
-use lib.IntN.{ℤ, pos, negsuc}
+use lib.IntN.{ℤ, pos}
 use lib.ListN.{length, getD, drop}
 use Rattle.seq.specs.List.{any}
 use Rattle.thread.specs.Code.{ok, einval}
@@ -12,7 +12,7 @@ use Rattle.wait_queue.specs.Queue.{waiting}
 use Rattle.wait_queue.specs.Post.{Refused}
 use Rattle.kind.specs.Verdict.{answer}
 use Rattle.kind.specs.Kind.{judge}
-use Rattle.kind.specs.Object.{Out, refused, Caller, anyone, thread, call, Layout}
+use Rattle.kind.specs.Object.{Out, refused, anyone, thread, call, Layout}
 use Rattle.sem.specs.Sem.{Sem, Call, give, take, tryTake, reset, formed, sem-kind}
 
 abbrev pub layout : Layout Sem

@@ -1,12 +1,12 @@
 -- A signed 32-bit number, its two's complement, and the casts between them. Assumes nothing.
-use mathlib.Core.Path.{_≡_, refl, sym, ap, subst, _∙_}
-use mathlib.Core.Bool.{Bool, true, false}
-use Prim.Native.Nat.{ℕ, suc, _+_, _-_, _^_, _<_, _≤_}
+use mathlib.Core.Path.{_≡_, refl, ap}
+use mathlib.Core.Bool.{true, false}
+use Prim.Native.Nat.{ℕ, suc, _<_}
 use native.Mathlib.Omega.{arith}
-use lib.Dec.{T, ltb, leb}
+use lib.Dec.{T}
 use lib.IntN.{ℤ, pos, negsuc, natAbs, _+ℤ_}
 use lib.Signed.{ltZ, nonNeg, mag}
-use mir.Syntax.{Width, w32, w64}
+use mir.Syntax.{w32, w64}
 use mir.Val.{SFits, Fits, toZ, ofZ}
 use mir.Facts.{sfits-widen, toZ-ofZ}
 use borrow.Author.Tests.{le-ltb, ltb-true}

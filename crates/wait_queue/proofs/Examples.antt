@@ -8,7 +8,7 @@ use Rattle.thread.specs.Code.{ok, eagain, enoent, enomem, ebusy, einval}
 use Rattle.thread.specs.Thread.{ready, running, blocked}
 use Rattle.wait_queue.specs.Queue.{maxWaiters, entry, waiting}
 use Rattle.wait_queue.specs.Turn.{Turn, refuse, at, pend, unpendFirst, unpendAll, remove}
-use Rattle.wait_queue.specs.Post.{sound}
+use Rattle.wait_queue.specs.Parts.{sound}
 
 -- 7 of priority 5, 3 of priority 2, 9 of priority 5
 abbrev seven : ℕ

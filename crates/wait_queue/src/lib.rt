@@ -18,7 +18,8 @@ ghost use Rattle.seq.specs.Word.{word};
 ghost use Rattle.thread.specs.Caller.{callerCode};
 ghost use Rattle.wait_queue.specs.Queue.{maxWaiters, entry, woken, waiting, roomy, holds, joined, without};
 ghost use Rattle.wait_queue.specs.Turn.{at, pend as pendTurn, unpendFirst, unpendAll, remove as removeTurn};
-ghost use Rattle.wait_queue.specs.Post.{Does, Told, Listed, number, isEmpty, Audited, sound, Searched, Shifted, Stopped, Packed};
+ghost use Rattle.wait_queue.specs.Post.{Does, Told, Listed, number, isEmpty, Audited};
+ghost use Rattle.wait_queue.specs.Parts.{sound, Searched, Shifted, Stopped, Packed};
 
 // How many threads can wait on one object.
 pub const MAX_WAITERS: usize = 64;
