@@ -15,8 +15,8 @@ void check_equal(int64_t got, int64_t wanted, const char *file, int line, const 
 #define CHECK(what) check((what), __FILE__, __LINE__, #what)
 #define EQUAL(got, wanted) check_equal((got), (wanted), __FILE__, __LINE__, #got " is " #wanted)
 
-/* All that a test lends to the library. Before each test every byte is FILL; the guards, and the bytes between a header and
- * its entries, must be FILL after it. */
+/* All that a test lends to the library. Before each test every byte is FILL; the guards, and the bytes between a header
+ * and its entries, must be FILL after it. */
 enum { FILL = 0xA5, PLACE = WQ_MAX_WAITERS + 1 };
 
 struct guard {

@@ -289,12 +289,12 @@ static void an_audit_changes_nothing(void)
     CHECK(stays());
 }
 
-/* The last two entries are those of the threads 7 and 3. */
-static void an_audit_finds(uint64_t entry, uint64_t last)
+/* In the queue 3, 7, 9, these for the entries of 7 and 3. */
+static void an_audit_finds(uint64_t second, uint64_t first)
 {
     three_wait();
-    m.queue.entry[1] = entry;
-    m.queue.entry[2] = last;
+    m.queue.entry[1] = second;
+    m.queue.entry[2] = first;
     REFUSED(wq_audit(&m.queue), false);
 }
 
