@@ -73,7 +73,10 @@ static inline int32_t wq_thread_init(struct wq_thread *t, uint32_t id, uint32_t 
 {
     if (wq_priority_new(priority) < 0)
         return WQ_EINVAL;
-    *t = (struct wq_thread){id, priority, WQ_READY, 0};
+    t->id = id;
+    t->priority = priority;
+    t->state = WQ_READY;
+    t->return_value = WQ_OK;
     return WQ_OK;
 }
 
