@@ -1,3 +1,4 @@
 pub mod Memory
 pub mod Picks
+pub mod Lines
 pub mod Histories

@@ -5,7 +5,7 @@ use mathlib.Core.List.{List, [], _∷_, _++_}
 use Prim.Native.Nat.{ℕ, _<_}
 use lib.Dec.{eqb}
 use Rattle.seq.specs.List.{any, chosen, Sub}
-use Rattle.wait_queue.specs.Queue.{entry, prio, holds, Well}
+use Rattle.wait_queue.specs.Queue.{entry, prio, ident, holds, Well}
 use Rattle.wait_queue.specs.Turn.{remove}
 use Rattle.kind.specs.Kind.{Kind}
 use Rattle.kind.specs.Object.{Out, anyone, thread, call}
@@ -22,6 +22,10 @@ pub data Event (C : Type 0) : Type 0 where
 
 abbrev pub of-priority : ℕ → ℕ → Bool
 of-priority p x = eqb (prio x) p
+
+-- the thread of x is in the queue q
+abbrev pub stays : List ℕ → ℕ → Bool
+stays q x = holds (ident x) q
 
 module _ (K : Kind) (v : ℕ → K .Wish) where
   abbrev pub happens : Object (K .Num) → Event (K .Call) → Out (K .Num)
@@ -48,6 +52,11 @@ module _ (K : Kind) (v : ℕ → K .Wish) where
   arrivals s [] = []
   arrivals s (x ∷ xs) = came s x ++ arrivals (next s x) xs
 
+  -- the line of those that wait, by arrival alone: who is no longer in the queue is out of it, and who begins to wait is its last
+  abbrev pub line : Object (K .Num) → List (Event (K .Call)) → List ℕ → List ℕ
+  line s [] l = l
+  line s (x ∷ xs) l = line (next s x) xs (chosen (stays (next s x .queue)) l ++ came s x)
+
   -- an object as it should be: in particular nobody waits with numbers with which nobody waits
   pub record Good (s : Object (K .Num)) : Type 0 where
     pub numbers : K .formed (s .num) (any (s .queue)) ≡ true
@@ -57,3 +66,5 @@ module _ (K : Kind) (v : ℕ → K .Wish) where
   pub record Lasting (s : Object (K .Num)) (xs : List (Event (K .Call))) : Type 0 where
     pub good : Good (run s xs)
     pub stable : (p : ℕ) → Sub (chosen (of-priority p) (run s xs .queue)) (chosen (of-priority p) (s .queue ++ arrivals s xs))
+    -- also where a thread left and came again: of each priority, the queue is that line
+    pub order : (p : ℕ) → chosen (of-priority p) (run s xs .queue) ≡ chosen (of-priority p) (line s xs (s .queue))

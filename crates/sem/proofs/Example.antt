@@ -1,9 +1,12 @@
 -- The worked run of document 01, computed. Assumes nothing.
 use mathlib.Core.Path.{_≡_, refl}
-use mathlib.Core.List.{[], _∷_}
+use mathlib.Core.List.{[], _∷_, map}
+use native.Mathlib.Omega.{arith}
 use Rattle.thread.specs.Code.{ok}
-use Rattle.wait_queue.specs.Queue.{maxWaiters, entry, woken}
-use Rattle.sem.specs.Worked.{waiting-ids, count-at, wakes}
+use Rattle.wait_queue.specs.Queue.{maxWaiters, entry, ident, woken}
+use Rattle.kind.specs.History.{leaves}
+use Rattle.sem.specs.History.{after}
+use Rattle.sem.specs.Worked.{taking, waiting-ids, count-at, wakes}
 
 -- the queue is 3, 7, 9
 pub queue-is : waiting-ids 0 ≡ 3 ∷ 7 ∷ 9 ∷ []
@@ -27,3 +30,8 @@ counts-rise = (refl, refl, refl)
 pub queue-ends : waiting-ids 3 ≡ []
 unfolding maxWaiters
 queue-ends = refl
+
+-- a thread that left and came again stands where it came last
+pub comes-again : map ident (after 0 2 (taking 7 (omega arith) 5 ∷ taking 9 (omega arith) 5 ∷ leaves 7 ∷ taking 7 (omega arith) 5 ∷ []) .queue) ≡ 9 ∷ 7 ∷ []
+unfolding maxWaiters
+comes-again = refl

@@ -96,4 +96,5 @@ sem-history c l xs h k =
       sorted = t .good .queue .sorted;
       single = t .good .queue .single;
       stable = t .stable;
+      order = t .order;
     }

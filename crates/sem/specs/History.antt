@@ -5,7 +5,7 @@ use Prim.Native.Nat.{ℕ, _≤_, _<_}
 use lib.ListN.{length}
 use Rattle.seq.specs.List.{chosen, Sorted, Sub}
 use Rattle.wait_queue.specs.Queue.{NoLower, Single}
-use Rattle.kind.specs.History.{Object, Event, of-priority, run, arrivals}
+use Rattle.kind.specs.History.{Object, Event, of-priority, run, arrivals, line}
 use Rattle.sem.specs.Sem.{Sem, Call, sem-kind}
 use Rattle.sem.specs.Post.{plain}
 
@@ -29,3 +29,5 @@ pub record Promise (c l : ℕ) (xs : List (Event Call)) : Type 0 where
   pub single : Single (after c l xs .queue)
   -- threads of one priority stand in the order of their arrival
   pub stable : (p : ℕ) → Sub (chosen (of-priority p) (after c l xs .queue)) (chosen (of-priority p) (arrivals sem-kind plain (fresh c l) xs))
+  -- also a thread that left and came again: it stands where it came last
+  pub order : (p : ℕ) → chosen (of-priority p) (after c l xs .queue) ≡ chosen (of-priority p) (line sem-kind plain (fresh c l) xs [])
