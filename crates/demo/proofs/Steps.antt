@@ -15,7 +15,7 @@ use Rattle.kind.specs.Object.{Out, on, Does}
 use Rattle.kind.specs.History.{Object}
 use Rattle.kind.proofs.Memory.{Housed, is-on}
 use Rattle.sem.specs.Sem.{Sem, formed}
-use Rattle.sem.specs.Post.{layout, Started}
+use Rattle.sem.specs.Post.{layout, Starts}
 use Rattle.sem.specs.History.{fresh}
 use Rattle.demo.specs.Run.{Is}
 
@@ -45,7 +45,7 @@ step {s} {h} {e} i short f d =
       };
     }
 
-module _ {c l : ℕ} {h : List ℕ} {r : ℤ} {h' : List ℕ} (f : formed (record { count = c; limit = l }) false ≡ true) (w : leb 3 (length h) ≡ true) (d : Started c l h r h') where
+module _ {c l : ℕ} {h : List ℕ} {r : ℤ} {h' : List ℕ} (f : formed (record { count = c; limit = l }) false ≡ true) (w : leb 3 (length h) ≡ true) (d : Starts c l h r h') where
   pub made-code : r ≡ ok
   made-code = rw (w, f) at (d .code)
 

@@ -15,7 +15,7 @@ ghost use lib.ListN.{length};
 ghost use Rattle.thread.specs.Thread.{running};
 ghost use Rattle.wait_queue.specs.Post.{Told, Listed};
 ghost use Rattle.kind.specs.Object.{on, Does};
-ghost use Rattle.sem.specs.Post.{layout, giveOut, takeOut, resetOut, Started};
+ghost use Rattle.sem.specs.Post.{layout, giveOut, takeOut, resetOut, Starts};
 ghost use Rattle.sem.specs.History.{fresh};
 ghost use Rattle.sem.specs.Worked.{worked};
 ghost use Rattle.demo.specs.Run.{Is, two};
@@ -94,7 +94,7 @@ fn two_are_reset(h: &mut [u32; 3], e: &[u64; MAX_WAITERS], out: &mut [u64; MAX_W
 }
 
 fn init(h: &mut [u32; 3], e: &[u64; MAX_WAITERS], count: u32, limit: u32) -> i32
-    ensures { λ r. ⌜ Started count limit (now (h .entry)) r (now (h .exit)) ⌝ }
+    ensures { λ r. ⌜ Starts count limit (now (h .entry)) r (now (h .exit)) ⌝ }
 {
     text(b"init ");
     number(count);

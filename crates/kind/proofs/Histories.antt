@@ -20,7 +20,7 @@ use Rattle.wait_queue.proofs.Answers.{ident-entry}
 use Rattle.wait_queue.proofs.Well.{well-empty, well-sub, well-joined}
 use Rattle.kind.specs.Verdict.{Verdict, deny, allow, keep, park, wake, left}
 use Rattle.kind.specs.Kind.{Kind, Lawful, Sound}
-use Rattle.kind.specs.Object.{Out, refused, anyone, thread, joins, carried, asked}
+use Rattle.kind.specs.Object.{Out, refused, named, thread, joins, carried, asked}
 use Rattle.kind.specs.History.{Object, Event, calls, asks, leaves, of-priority, stays, line, happens, next, run, came, arrivals, Good, Lasting}
 use Rattle.kind.proofs.Lines.{chosen-swap, stay-sub, stay-joined}
 use Rattle.kind.proofs.Picks.{any-map, left-sub, left-map}
@@ -108,12 +108,12 @@ module _ (K : Kind) (law : Lawful K) (v : ℕ → K .Wish) where
     by-thread i p st b (pos c) z (allow m (wake k t) r) s =
         fewer _ _ (none-came i (entry p i) (left-sub ident k q)) (left-sub ident k q) (rw (left-map ident k q, any-map ident (left ident k q)) at s)
 
-    -- a call by anyone
-    by-anyone : (d : Verdict (K .Num) (K .Wish)) → Sound K (map ident q) d → Steady q (carried anyone d n q) []
-    by-anyone (deny r) s = refusal r [] refl
-    by-anyone (allow m keep r) s = fewer _ [] refl (sub-all q) (rw (any-map ident q) at s)
-    by-anyone (allow m (park x) r) s = refusal (negsuc 21) [] refl
-    by-anyone (allow m (wake k t) r) s = fewer _ [] refl (left-sub ident k q) (rw (left-map ident k q, any-map ident (left ident k q)) at s)
+    -- a call by a thread that cannot wait
+    by-name : (i : ℕ) (d : Verdict (K .Num) (K .Wish)) → Sound K (map ident q) d → Steady q (carried (named i) d n q) []
+    by-name i (deny r) s = refusal r [] refl
+    by-name i (allow m keep r) s = fewer _ [] refl (sub-all q) (rw (any-map ident q) at s)
+    by-name i (allow m (park x) r) s = refusal (negsuc 21) [] refl
+    by-name i (allow m (wake k t) r) s = fewer _ [] refl (left-sub ident k q) (rw (left-map ident k q, any-map ident (left ident k q)) at s)
 
     -- one leaves
     still : (l : List ℕ) → Sub l q → K .formed n (any l) ≡ true
@@ -132,9 +132,9 @@ module _ (K : Kind) (law : Lawful K) (v : ℕ → K .Wish) where
     by-leaving i false h = rw h (refusal (negsuc 1) [] refl)
 
   pub step : (s : Object (K .Num)) (x : Event (K .Call)) → Good K v s → Steady (s .queue) (happens K v s x) (came K v s x)
-  step s (calls k) g =
+  step s (calls i k) g =
       let f = g .numbers in
-      rw f (by-anyone (s .num) (s .queue) f (g .queue) (K .decide (s .num) v (map ident (s .queue)) 0 k) (law .sound (s .num) v (map ident (s .queue)) 0 k (threads (s .num) (s .queue) f (g .queue))))
+      rw f (by-name (s .num) (s .queue) f (g .queue) i (K .decide (s .num) v (map ident (s .queue)) i k) (law .sound (s .num) v (map ident (s .queue)) i k (threads (s .num) (s .queue) f (g .queue))))
   step s (asks i p st h k) g =
       let f = g .numbers in
       let whole : asked (callerCode p st) (s .num) (s .queue) (carried (thread i p st) (K .decide (s .num) v (map ident (s .queue)) i k) (s .num) (s .queue))
@@ -159,26 +159,44 @@ module _ (K : Kind) (law : Lawful K) (v : ℕ → K .Wish) where
       (chosen-swap (of-priority p) (stays q) (s .queue) ∙ ap (chosen (stays q)) (h p) ∙ chosen-swap (stays q) (of-priority p) l)
       ∙ sym (chosen-append (of-priority p) (chosen (stays q) l) (came K v s x)))
 
+  -- of each priority a part of those that were there and of all arrivals
+  in-part : (s : Object (K .Num)) (xs : List (Event (K .Call))) → Good K v s
+      → (p : ℕ) → Sub (chosen (of-priority p) (run K v s xs .queue)) (chosen (of-priority p) (s .queue ++ arrivals K v s xs))
+  in-part s [] g p = rw append-nil (sub-all (chosen (of-priority p) (s .queue)))
+  in-part s (x ∷ xs) g p =
+      let a = step s x g in
+      let t : List ℕ = arrivals K v (next K v s x) xs in
+      let u = in-part (next K v s x) xs (record { numbers = a .numbers; queue = a .queue }) p in
+      sub-trans (rw (chosen-append (of-priority p) (next K v s x .queue) t) at u)
+      (rw (← append-assoc (s .queue) (came K v s x) t, chosen-append (of-priority p) (s .queue ++ came K v s x) t)
+      (sub-append (chosen (of-priority p) t) (a .stable p)))
+
+  -- what a step keeps, of an object that is as it should be, any events keep
+  pub throughout : (P : Object (K .Num) → Type 0) → ((s : Object (K .Num)) (x : Event (K .Call)) → Good K v s → P s → P (next K v s x))
+      → (s : Object (K .Num)) (xs : List (Event (K .Call))) → Good K v s → P s → P (run K v s xs)
+  throughout P h s [] g p = p
+  throughout P h s (x ∷ xs) g p =
+      let a = step s x g in throughout P h (next K v s x) xs (record { numbers = a .numbers; queue = a .queue }) (h s x g p)
+
+  always-good : (s : Object (K .Num)) (xs : List (Event (K .Call))) → Good K v s → Good K v (run K v s xs)
+  always-good s xs g = throughout (Good K v) (λ s x g p. let a = step s x g in record { numbers = a .numbers; queue = a .queue }) s xs g g
+
   -- for any events
   pub lasting : (s : Object (K .Num)) (xs : List (Event (K .Call))) → Good K v s → Lasting K v s xs
-  lasting s [] g = record { good = g; stable = λ p. rw append-nil (sub-all (chosen (of-priority p) (s .queue))); order = λ p. refl }
-  lasting s (x ∷ xs) g =
-      let a = step s x g in
-      let r : Lasting K v (next K v s x) xs = lasting (next K v s x) xs (record { numbers = a .numbers; queue = a .queue }) in
+  lasting s xs g =
+      let r : Good K v (run K v s xs) = always-good s xs g in
       record {
-        good = r .good;
-        stable =
-            λ p.
-            let t : List ℕ = arrivals K v (next K v s x) xs in
-            let u = r .stable p in
-            sub-trans (rw (chosen-append (of-priority p) (next K v s x .queue) t) at u)
-            (rw (← append-assoc (s .queue) (came K v s x) t, chosen-append (of-priority p) (s .queue ++ came K v s x) t)
-            (sub-append (chosen (of-priority p) t) (a .stable p)));
-        order = in-line s (x ∷ xs) (s .queue) g (λ p. refl);
+        good = r;
+        queue =
+            record {
+              short = r .queue .short;
+              sorted = r .queue .sorted;
+              single = r .queue .single;
+              stable = in-part s xs g;
+              order = in-line s xs (s .queue) g (λ p. refl);
+            };
       }
 
   -- from an object on which nobody waits
   pub always : (n : K .Num) (xs : List (Event (K .Call))) → K .formed n false ≡ true → Lasting K v (record { num = n; queue = [] }) xs
-  always n xs f =
-      lasting (record { num = n; queue = [] }) xs
-      (record { numbers = f; queue = well-empty })
+  always n xs f = lasting (record { num = n; queue = [] }) xs (record { numbers = f; queue = well-empty })

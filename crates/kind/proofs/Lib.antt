@@ -1,4 +1,5 @@
 pub mod Memory
+pub mod Answers
 pub mod Picks
 pub mod Lines
 pub mod Histories

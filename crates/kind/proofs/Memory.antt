@@ -8,7 +8,7 @@ use lib.Dec.{ltb, leb}
 use lib.IntN.{ℤ, pos, negsuc}
 use lib.ListN.{length, getD, set, drop, length-set}
 use lib.Seq.{getD-set-same, set-getD, drop-set-lt}
-use borrow.Author.Tests.{lt-ltb, le-leb, lt-leb, leb-true}
+use borrow.Author.Tests.{lt-ltb, le-leb, leb-true}
 use Rattle.seq.specs.List.{any}
 use Rattle.seq.proofs.Order.{clash, cond-same}
 use Rattle.thread.specs.Code.{einval}
@@ -18,12 +18,29 @@ use Rattle.wait_queue.specs.Post.{Refused}
 use Rattle.wait_queue.specs.Post as queue
 use Rattle.wait_queue.proofs.Memory.{roomy-zero, not-at}
 use Rattle.kind.specs.Kind.{Kind}
-use Rattle.kind.specs.Object.{Out, refused, Caller, call, Layout, on, Does, sized, sane, Audited}
+use Rattle.kind.specs.Object.{Out, refused, Layout, on, Does, sized, sane, Audited}
 
 -- the memory of an object is there
 pub record Housed {N : Type 0} (L : Layout N) (h e : List ℕ) : Type 0 where
   pub words : L .words ≤ length h
   pub room : roomy (getD h (L .len) 0) e ≡ true
+
+-- the header h became h', with the numbers n and the length m; no other word changed
+pub record Header {N : Type 0} (L : Layout N) (h : List ℕ) (n : N) (m : ℕ) (h' : List ℕ) : Type 0 where
+  pub num : L .num h' ≡ n
+  pub len : getD h' (L .len) 0 ≡ m
+  pub beside : drop (L .words) h' ≡ drop (L .words) h
+  pub long : length h' ≡ length h
+
+module _ {N : Type 0} (L : Layout N) (h : List ℕ) where
+  pub same-header : Header L h (L .num h) (getD h (L .len) 0) h
+  same-header = record { num = refl; len = refl; beside = refl; long = refl }
+
+  -- one more of its own words was written
+  pub written : {n n' : N} {m m' : ℕ} {h' : List ℕ} (i x : ℕ) → Header L h n m h' → i < L .words → L .num (set h' i x) ≡ n' → getD (set h' i x) (L .len) 0 ≡ m'
+      → Header L h n' m' (set h' i x)
+  written {h' = h'} i x t b y z =
+      record { num = y; len = z; beside = drop-set-lt (L .words) h' i x b ∙ t .beside; long = length-set h' i x ∙ t .long }
 
 module _ {N : Type 0} (L : Layout N) (f : N → List ℕ → Out N) (h e : List ℕ) where
   pub is-on : Housed L h e → on L f h e ≡ f (L .num h) (waiting e (getD h (L .len) 0))
@@ -32,34 +49,32 @@ module _ {N : Type 0} (L : Layout N) (f : N → List ℕ → Out N) (h e : List 
   pub refuses : (k : ℕ) → on L f h e ≡ refused (negsuc k) (L .num h) (waiting e (getD h (L .len) 0)) → Does L f h e (negsuc k) h e
   refuses k o = record { code = rw o; num = rw o; queue = rw o; kept = (refl, refl); beside = refl; rest = refl; long = (refl, refl) }
 
-  pub too-short : length h < L .words → Does L f h e einval h e
-  too-short l = refuses 21 (rw (lt-leb (L .words) (length h) l))
-
   pub no-room : L .words ≤ length h → roomy (getD h (L .len) 0) e ≡ false → Does L f h e einval h e
   no-room l r = refuses 21 (rw (le-leb (L .words) (length h) l, r))
 
-  pub denied : (k : ℕ) → Housed L h e → f (L .num h) (waiting e (getD h (L .len) 0)) ≡ refused (negsuc k) (L .num h) (waiting e (getD h (L .len) 0))
-      → Does L f h e (negsuc k) h e
-  denied k m t = refuses k (is-on m ∙ t)
-
-  -- only the header changes, and in its own words
+  -- only the header changes
   pub renumbered : (c : ℕ) (n : N) (h' : List ℕ) → Housed L h e
       → f (L .num h) (waiting e (getD h (L .len) 0)) ≡ record { num = n; turn = record { code = pos c; queue = waiting e (getD h (L .len) 0); woken = [] } }
-      → L .num h' ≡ n → getD h' (L .len) 0 ≡ getD h (L .len) 0 → drop (L .words) h' ≡ drop (L .words) h → length h' ≡ length h
-      → Does L f h e (pos c) h' e
-  renumbered c n h' m t x y z l =
+      → Header L h n (getD h (L .len) 0) h' → Does L f h e (pos c) h' e
+  renumbered c n h' m t x =
       let o = is-on m ∙ t in
-      record { code = rw o; num = rw o x; queue = rw (o, y) refl; kept = tt; beside = z; rest = refl; long = (l, refl) }
+      record { code = rw o; num = rw o (x .num); queue = rw (o, x .len) refl; kept = tt; beside = x .beside; rest = refl; long = (x .long, refl) }
 
-  -- the queue's turn g, which set the word of its length; the numbers become n and the answer c, unless it is a refusal
+  -- the queue's turn g, which left k that wait; the numbers become n and the answer c
   pub turned : (g : List ℕ → Turn) (n : N) (c : ℕ) (r : ℤ) (k : ℕ) (h' e' : List ℕ) → Housed L h e
       → f (L .num h) (waiting e (getD h (L .len) 0)) ≡ record { num = n; turn = record { code = pos c; queue = at g (getD h (L .len) 0) e .queue; woken = at g (getD h (L .len) 0) e .woken } }
-      → queue.Does g (getD h (L .len) 0) e r k e'
-      → L .num h' ≡ n → getD h' (L .len) 0 ≡ k → drop (L .words) h' ≡ drop (L .words) h → length h' ≡ length h
-      → Does L f h e (pos c) h' e'
-  turned g n c r k h' e' m t d x y z l =
+      → queue.Does g (getD h (L .len) 0) e r k e' → Header L h n k h' → Does L f h e (pos c) h' e'
+  turned g n c r k h' e' m t d x =
       let o = is-on m ∙ t in
-      record { code = rw o; num = rw o x; queue = rw (o, y) (d .queue); kept = tt; beside = z; rest = rw y (d .rest); long = (l, d .long) }
+      record {
+        code = rw o;
+        num = rw o (x .num);
+        queue = rw (o, x .len) (d .queue);
+        kept = tt;
+        beside = x .beside;
+        rest = rw (x .len) (d .rest);
+        long = (x .long, d .long);
+      }
 
   -- the queue's turn g is all that happens
   pub followed : (g : List ℕ → Turn) (r : ℤ) (k : ℕ) (e' : List ℕ) → Housed L h e → L .len < L .words
@@ -100,6 +115,14 @@ unchanged L f h e r h' e' k d o =
     let p : (h' ≡ h) × (e' ≡ e) = rw c at (d .kept) in
     (c, p .0, p .1)
 
+-- what an operation leaves, read off in memory
+pub shown : {N : Type 0} (L : Layout N) (f : N → List ℕ → Out N) (P : ℤ → N → List ℕ → Type 0) (h e : List ℕ) (r : ℤ) (h' e' : List ℕ) → Does L f h e r h' e' → Housed L h e
+    → P (f (L .num h) (waiting e (getD h (L .len) 0)) .turn .code) (f (L .num h) (waiting e (getD h (L .len) 0)) .num) (f (L .num h) (waiting e (getD h (L .len) 0)) .turn .queue)
+    → P r (L .num h') (waiting e' (getD h' (L .len) 0))
+shown {N} L f P h e r h' e' d m p =
+    let q = is-on L f h e m in
+    rw (d .code ∙ ap (λ (x : Out N). x .turn .code) q, d .num ∙ ap (λ (x : Out N). x .num) q, d .queue ∙ ap (λ (x : Out N). x .turn .queue) q) p
+
 -- a queue in memory has somebody exactly if its length is not 0
 pub any-waiting : (e : List ℕ) (n : ℕ) → any (waiting e n) ≡ ltb 0 n
 any-waiting e zero = refl
@@ -121,7 +144,7 @@ module _ (K : Kind) (L : Layout (K .Num)) (h e : List ℕ) where
       go false b x y z = clash (sym z)
 
   -- by the room, then by what the words hold
-  pub unsized : sized L h e ≡ false → sane K L h e ≡ false
+  pub unsized : sized (L .words) h e ≡ false → sane K L h e ≡ false
   unsized s = go (leb (L .words) (length h)) (roomy (getD h (L .len) 0) e) refl refl s
     where
       none : roomy 0 e ≡ false → roomy (getD h (L .len) 0) e ≡ true → true ≡ false
@@ -133,7 +156,7 @@ module _ (K : Kind) (L : Layout (K .Num)) (h e : List ℕ) where
       go true false x y z = refl
       go false b x y z = refl
 
-  module _ (s : sized L h e ≡ true) where
+  module _ (s : sized (L .words) h e ≡ true) where
     pub sized-words : L .words ≤ length h
     sized-words = go (leb (L .words) (length h)) refl s
       where
@@ -176,14 +199,11 @@ module _ (K : Kind) (L : Layout (K .Num)) (h e : List ℕ) where
       go true false x y z = refl
       go false b x y z = refl
 
-  pub rejected : (f : K .Num → List ℕ → Out (K .Num))
+  -- and every word stays
+  pub barred : (f : K .Num → List ℕ → Out (K .Num)) (r : ℤ) (h' e' : List ℕ)
       → ((n : K .Num) (q : List ℕ) → K .formed n (any q) ≡ false → f n q ≡ refused einval n q)
-      → sane K L h e ≡ false → Does L f h e einval h e
-  rejected f r s = refuses L f h e 21 (malformed f r s)
-
-  pub call-refuses : (v : ℕ → K .Wish) (w : Caller) (k : K .Call) (n : K .Num) (q : List ℕ) → K .formed n (any q) ≡ false
-      → call K v w k n q ≡ refused einval n q
-  call-refuses v w k n q z = rw z
+      → sane K L h e ≡ false → Does L f h e r h' e' → (r ≡ einval) × (h' ≡ h) × (e' ≡ e)
+  barred f r h' e' k s d = unchanged L f h e r h' e' 21 d (ap (λ (o : Out (K .Num)). o .turn .code) (malformed f k s))
 
   -- the audit: of the numbers, then of the queue
   pub audit-insane : sane K L h e ≡ false → Audited K L h e false

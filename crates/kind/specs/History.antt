@@ -2,21 +2,23 @@
 use mathlib.Core.Path.{_≡_}
 use mathlib.Core.Bool.{Bool, true, cond}
 use mathlib.Core.List.{List, [], _∷_, _++_}
-use Prim.Native.Nat.{ℕ, _<_}
+use Prim.Native.Nat.{ℕ, _<_, _≤_}
 use lib.Dec.{eqb}
-use Rattle.seq.specs.List.{any, chosen, Sub}
-use Rattle.wait_queue.specs.Queue.{entry, prio, ident, holds, Well}
+use lib.ListN.{length}
+use Rattle.seq.specs.List.{any, chosen, Sorted, Sub}
+use Rattle.wait_queue.specs.Queue.{maxWaiters, entry, prio, ident, holds, NoLower, Single, Well}
 use Rattle.wait_queue.specs.Turn.{remove}
 use Rattle.kind.specs.Kind.{Kind}
-use Rattle.kind.specs.Object.{Out, anyone, thread, call}
+use Rattle.kind.specs.Object.{Out, named, thread, call}
 
 pub record Object (N : Type 0) : Type 0 where
   pub num : N
   pub queue : List ℕ
 
--- what can happen to an object: a call by anyone; a call by a thread; a thread's time is over and it leaves. Ids are 32-bit numbers
+-- what can happen to an object: a call by the thread i, which cannot wait in it; a call in which it can; its time is over and it
+-- leaves. Ids are 32-bit numbers
 pub data Event (C : Type 0) : Type 0 where
-  calls : C → Event C
+  calls : (i : ℕ) → C → Event C
   asks : (i p st : ℕ) → i < 4294967296 → C → Event C
   leaves : ℕ → Event C
 
@@ -29,7 +31,7 @@ stays q x = holds (ident x) q
 
 module _ (K : Kind) (v : ℕ → K .Wish) where
   abbrev pub happens : Object (K .Num) → Event (K .Call) → Out (K .Num)
-  happens s (calls k) = call K v anyone k (s .num) (s .queue)
+  happens s (calls i k) = call K v (named i) k (s .num) (s .queue)
   happens s (asks i p st h k) = call K v (thread i p st) k (s .num) (s .queue)
   happens s (leaves i) = record { num = s .num; turn = remove i (s .queue) }
 
@@ -42,7 +44,7 @@ module _ (K : Kind) (v : ℕ → K .Wish) where
 
   -- the entry of the caller, if it is in the queue after the event and was not before
   abbrev pub came : Object (K .Num) → Event (K .Call) → List ℕ
-  came s (calls k) = []
+  came s (calls i k) = []
   came s (asks i p st h k) =
       cond (holds i (s .queue)) [] (cond (holds i (next s (asks i p st h k) .queue)) (entry p i ∷ []) [])
   came s (leaves i) = []
@@ -62,9 +64,20 @@ module _ (K : Kind) (v : ℕ → K .Wish) where
     pub numbers : K .formed (s .num) (any (s .queue)) ≡ true
     pub queue : Well (s .queue)
 
-  -- after any events the object is as it should be, and those of one priority stand in the order in which they came
+  -- what the queue of an object promises after any events
+  pub record Queued (s : Object (K .Num)) (xs : List (Event (K .Call))) : Type 0 where
+    -- no more wait than can
+    pub short : length (run s xs .queue) ≤ maxWaiters
+    -- no lower priority stands before a higher one
+    pub sorted : Sorted NoLower (run s xs .queue)
+    -- no thread waits twice
+    pub single : Single (run s xs .queue)
+    -- threads of one priority stand in the order of their arrival
+    pub stable : (p : ℕ) → Sub (chosen (of-priority p) (run s xs .queue)) (chosen (of-priority p) (s .queue ++ arrivals s xs))
+    -- also a thread that left and came again: it stands where it came last
+    pub order : (p : ℕ) → chosen (of-priority p) (run s xs .queue) ≡ chosen (of-priority p) (line s xs (s .queue))
+
+  -- after any events the object is as it should be, and so is the order of its queue
   pub record Lasting (s : Object (K .Num)) (xs : List (Event (K .Call))) : Type 0 where
     pub good : Good (run s xs)
-    pub stable : (p : ℕ) → Sub (chosen (of-priority p) (run s xs .queue)) (chosen (of-priority p) (s .queue ++ arrivals s xs))
-    -- also where a thread left and came again: of each priority, the queue is that line
-    pub order : (p : ℕ) → chosen (of-priority p) (run s xs .queue) ≡ chosen (of-priority p) (line s xs (s .queue))
+    pub queue : Queued s xs

@@ -30,6 +30,10 @@ judge K n v q w k = cond (K .formed n (any q)) (K .decide n v q w k) (deny einva
 abbrev pub Rightly : (K : Kind) → K .Num → (ℕ → K .Wish) → List ℕ → Type 0
 Rightly K n v q = All (λ t. K .Blocked n (v t)) q
 
+-- nobody waits with a wish of its own
+abbrev pub plain : ℕ → Unit {0}
+plain t = tt
+
 -- the threads that wait: each stands for itself
 abbrev pub itself : ℕ → ℕ
 itself t = t

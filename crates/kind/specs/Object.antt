@@ -29,18 +29,22 @@ abbrev pub settled : {N : Type 0} → ℤ → N → N → N
 settled (pos c) m n = m
 settled (negsuc c) m n = n
 
--- who calls: nobody in particular, who cannot wait; or the thread i of priority p in the state st
+-- who calls: the thread i, which cannot wait in this call; or the thread i of priority p in the state st
 pub data Caller : Type 0 where
-  anyone : Caller
+  named : (i : ℕ) → Caller
   thread : (i p st : ℕ) → Caller
 
+-- of a call that is the same for all threads
+abbrev pub anyone : Caller
+anyone = named 0
+
 abbrev pub name : Caller → ℕ
-name anyone = 0
+name (named i) = i
 name (thread i p st) = i
 
 -- the caller joins the queue
 abbrev pub joins : {N : Type 0} → Caller → N → N → List ℕ → Out N
-joins anyone m n q = refused einval n q
+joins (named i) m n q = refused einval n q
 joins (thread i p st) m n q = record { num = settled (parked (entry p i) q .code) m n; turn = parked (entry p i) q }
 
 -- a verdict is carried out on the numbers n and the queue q
@@ -53,7 +57,7 @@ carried w (allow m (wake p f) r) n q =
 
 -- what the caller's numbers are answered
 abbrev pub code : Caller → ℤ
-code anyone = ok
+code (named i) = ok
 code (thread i p st) = callerCode p st
 
 -- o, if the code is no refusal
@@ -65,6 +69,15 @@ asked (negsuc c) n q o = refused (negsuc c) n q
 abbrev pub call : (K : Kind) → (ℕ → K .Wish) → Caller → K .Call → K .Num → List ℕ → Out (K .Num)
 call K v w k n q =
     cond (K .formed n (any q)) (asked (code w) n q (carried w (K .decide n v (map ident q) (name w) k) n q)) (refused einval n q)
+
+-- o, if there is room to hand out all that it wakes
+abbrev pub handed : {N : Type 0} → ℕ → (N → List ℕ → Out N) → N → List ℕ → Out N
+handed room f n q = cond (leb (length (f n q .turn .woken)) room) (f n q) (refused einval n q)
+
+-- a number of an object that is as it should be; nothing changes
+abbrev pub looks : (K : Kind) → (K .Num → List ℕ → ℤ) → K .Num → List ℕ → Out (K .Num)
+looks K f n q =
+    cond (K .formed n (any q)) (record { num = n; turn = record { code = f n q; queue = q; woken = [] } }) (refused einval n q)
 
 -- where an object stands in a header: how many words are its own, its numbers, and the word that has its queue's length
 pub record Layout (N : Type 0) : Type 0 where
@@ -93,9 +106,17 @@ pub record Does {N : Type 0} (L : Layout N) (f : N → List ℕ → Out N) (h e 
   pub rest : drop (getD h' (L .len) 0) e' ≡ drop (getD h' (L .len) 0) e
   pub long : (length h' ≡ length h) × (length e' ≡ length e)
 
--- the header and the entries have their room, whatever they hold
-abbrev pub sized : {N : Type 0} → Layout N → List ℕ → List ℕ → Bool
-sized L h e = cond (leb (L .words) (length h)) (roomy 0 e) false
+-- a new object with the numbers n, on which nobody waits; refused, the header stays
+pub record Started (K : Kind) (L : Layout (K .Num)) (n : K .Num) (h : List ℕ) (r : ℤ) (h' : List ℕ) : Type 0 where
+  pub code : r ≡ cond (leb (L .words) (length h)) (cond (K .formed n false) ok einval) einval
+  pub made : r ≡ ok → (L .num h' ≡ n) × ((e : List ℕ) → waiting e (getD h' (L .len) 0) ≡ [])
+  pub kept : Refused r (h' ≡ h)
+  pub beside : drop (L .words) h' ≡ drop (L .words) h
+  pub long : length h' ≡ length h
+
+-- a header of some words and the entries have their room, whatever they hold
+abbrev pub sized : ℕ → List ℕ → List ℕ → Bool
+sized words h e = cond (leb words (length h)) (roomy 0 e) false
 
 -- the memory and the numbers are as they should be
 abbrev pub sane : (K : Kind) → Layout (K .Num) → List ℕ → List ℕ → Bool

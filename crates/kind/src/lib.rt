@@ -1,2 +1,14 @@
-// What every kernel object has in common, in specs/ and proofs/: a verdict on a call, what it does to the queue, and the laws for
-// any sequence of calls. An object is a kind with its own numbers and calls.
+// What every kernel object has in common, most of it in specs/ and proofs/: a verdict on a call, what it does to the queue, and the laws
+// for any sequence of calls. An object is a kind with its own numbers and calls.
+ghost use mathlib.Core.Path.{_≡_};
+ghost use Rattle.kind.specs.Object.{sized};
+
+// Whether a header of so many words and the entries have their room.
+pub fn housed(h: &[u32], words: usize, e: &[u64]) -> bool
+    ensures { λ r. ⌜ r ≡ sized words (now (h .entry)) (now (e .entry)) ⌝ }
+{
+    if h.len() < words {
+        return false;
+    }
+    wait_queue::fits(0, e)
+}

@@ -1,28 +1,29 @@
 -- How each answer of a function meets the semaphore's definition. Assumes nothing.
 use mathlib.Core.Path.{_≡_, refl, _∙_}
 use mathlib.Core.Bool.{Bool, true, false}
-use mathlib.Core.List.{List, [], map}
-use Prim.Native.Nat.{ℕ, zero, suc, _+_, _-_, _≤_, _<_}
+use mathlib.Core.List.{List, map}
+use Prim.Native.Nat.{ℕ, suc, _+_, _-_, _≤_, _<_}
 use native.Mathlib.Numerals.{add-one}
 use native.Mathlib.Omega.{arith}
-use lib.Dec.{ltb, leb}
+use lib.Dec.{ltb}
 use lib.IntN.{ℤ, pos, negsuc}
-use lib.ListN.{length, getD, set, length-set, length-map}
-use lib.Seq.{getD-set-same, getD-set-other, drop-set-lt}
-use borrow.Author.Tests.{lt-ltb, le-ltb, le-leb, lt-leb}
+use lib.ListN.{length, getD, set, length-set}
+use lib.Seq.{getD-set-same, getD-set-other}
+use borrow.Author.Tests.{lt-ltb, le-ltb}
 use Rattle.seq.specs.List.{any}
-use Rattle.seq.proofs.Back.{back-length}
-use Rattle.seq.proofs.Order.{cond-same}
 use Rattle.thread.specs.Code.{ok, eagain, ebusy, einval}
 use Rattle.thread.specs.Caller.{callerCode}
-use Rattle.wait_queue.specs.Queue.{entry, ident, woken, waiting, roomy}
-use Rattle.wait_queue.specs.Turn.{at, parked, pend, unpendFirst, unpendAll}
+use Rattle.wait_queue.specs.Queue.{ident, waiting}
+use Rattle.wait_queue.specs.Turn.{at, pend, unpendFirst, unpendAll}
 use Rattle.wait_queue.specs.Post.{Told, Listed}
 use Rattle.wait_queue.specs.Post as queue
-use Rattle.kind.specs.Object.{Out, refused, settled, anyone, thread, on, Does, sized, sane}
-use Rattle.kind.proofs.Memory.{Sane, is-sane, formed-queue, is-on, denied, renumbered, turned, followed, followed-out, malformed, rejected, call-refuses, unsized, sized-words, misnumbered, idle-sane, roomy-sane}
-use Rattle.sem.specs.Sem.{Sem, give, take, tryTake, formed, counting, woke, incremented, saturated, sem-kind}
-use Rattle.sem.specs.Post.{layout, plain, giveOut, tryTakeOut, takeOut, resetOut, getOut, Started, GiveDecided, TakeDecided}
+use Rattle.kind.specs.Verdict.{everybody, wake, allow}
+use Rattle.kind.specs.Kind.{plain}
+use Rattle.kind.specs.Object.{anyone, thread, on, Does, sized, sane}
+use Rattle.kind.proofs.Memory.{Header, same-header, written, refuses, is-sane, malformed, unsized, sized-words, misnumbered, idle-sane}
+use Rattle.kind.proofs.Answers.{any-line, length-line, Tells, Lists, silent, unlisted, verdict, call-no, call-barred, call-denied, keeps, wakes, no-place, wakes-all, handed-no, waits-now, unseen, seen, start-short, start-bad, start-made}
+use Rattle.sem.specs.Sem.{Sem, give, take, tryTake, reset, formed, counting, woke, incremented, saturated, sem-kind}
+use Rattle.sem.specs.Post.{layout, giveOut, tryTakeOut, takeOut, resetOut, getOut, Starts, GiveDecided, TakeDecided}
 use Rattle.sem.proofs.Law.{mk, Fine, is-fine, fine-is, idle, mixed, no-limit, over}
 
 -- on plain numbers
@@ -70,203 +71,128 @@ module _ (h : List ℕ) where
       let b : getD (set h 2 x) 1 0 ≡ getD h 1 0 = getD-set-other h 2 1 x 0 (λ q. absurd (omega arith)) in
       rw (a, b)
 
--- what each call does, from the numbers and the queue
-module _ (c l : ℕ) (e : List ℕ) where
-  give-wakes : (n : ℕ) → 0 < n → roomy n e ≡ true → formed (mk c l) (any (waiting e n)) ≡ true
-      → giveOut (mk c l) (waiting e n) ≡ record { num = mk c l; turn = record { code = woke; queue = at (unpendFirst ok) n e .queue; woken = at (unpendFirst ok) n e .woken } }
-  give-wakes zero h r f = absurd (omega arith)
-  give-wakes (suc k) h r f = rw (f, r)
+  -- another count, another length
+  counted : (x : ℕ) → 3 ≤ length h → Header layout h (counting x (layout .num h)) (getD h 2 0) (set h 0 x)
+  counted x k = written layout h 0 x (same-header layout h) (omega arith) (count-set x k) (len-kept x)
 
-  give-counts : (n : ℕ) → n ≡ 0 → formed (mk c l) (any (waiting e n)) ≡ true → c < l
-      → giveOut (mk c l) (waiting e n) ≡ record { num = mk (suc c) l; turn = record { code = incremented; queue = waiting e n; woken = [] } }
-  give-counts zero z f h = rw (f, lt-ltb c l h)
-  give-counts (suc k) z f h = absurd (omega arith)
+  fewer : (x : ℕ) → 3 ≤ length h → Header layout h (layout .num h) x (set h 2 x)
+  fewer x k = written layout h 2 x (same-header layout h) (omega arith) (num-kept x) (len-set x k)
 
-  give-full : (n : ℕ) → n ≡ 0 → formed (mk c l) (any (waiting e n)) ≡ true → l ≤ c
-      → giveOut (mk c l) (waiting e n) ≡ record { num = mk c l; turn = record { code = saturated; queue = waiting e n; woken = [] } }
-  give-full zero z f h = rw (f, le-ltb c l h)
-  give-full (suc k) z f h = absurd (omega arith)
+  cleared : (x : ℕ) → 3 ≤ length h → Header layout h (counting 0 (layout .num h)) x (set (set h 0 0) 2 x)
+  cleared x k =
+      let w : 3 ≤ length (set h 0 0) = omega (arith, length-set h 0 0) in
+      written layout h 2 x (counted 0 k) (omega arith) (num-kept-after x ∙ count-set 0 k) (getD-set-same (set h 0 0) 2 x 0 (omega arith))
+    where
+      num-kept-after : (x : ℕ) → layout .num (set (set h 0 0) 2 x) ≡ layout .num (set h 0 0)
+      num-kept-after x =
+          let a : getD (set (set h 0 0) 2 x) 0 0 ≡ getD (set h 0 0) 0 0 = getD-set-other (set h 0 0) 2 0 x 0 (λ q. absurd (omega arith)) in
+          let b : getD (set (set h 0 0) 2 x) 1 0 ≡ getD (set h 0 0) 1 0 = getD-set-other (set h 0 0) 2 1 x 0 (λ q. absurd (omega arith)) in
+          rw (a, b)
 
-module _ (c l : ℕ) (q : List ℕ) (f : formed (mk c l) (any q) ≡ true) where
-  try-takes : 0 < c → tryTakeOut (mk c l) q ≡ record { num = mk (c - 1) l; turn = record { code = ok; queue = q; woken = [] } }
-  try-takes h = rw (f, lt-ltb 0 c h)
-
-  try-busy : c ≡ 0 → tryTakeOut (mk c l) q ≡ refused ebusy (mk c l) q
-  try-busy h = let z : c ≤ 0 = omega arith in rw (f, le-ltb 0 c z)
-
-  module _ (i p st : ℕ) where
-    take-caller : (k : ℕ) → callerCode p st ≡ negsuc k → takeOut i p st (mk c l) q ≡ refused (negsuc k) (mk c l) q
-    take-caller k z = rw (f, z)
-
-    take-takes : (k : ℕ) → callerCode p st ≡ pos k → 0 < c
-        → takeOut i p st (mk c l) q ≡ record { num = mk (c - 1) l; turn = record { code = ok; queue = q; woken = [] } }
-    take-takes k z h = rw (f, z, lt-ltb 0 c h)
-
-    unsettled : (r : ℤ) → settled r (mk c l) (mk c l) ≡ mk c l
-    unsettled (pos n) = refl
-    unsettled (negsuc n) = refl
-
-    take-waits : c ≡ 0 → takeOut i p st (mk c l) q ≡ record { num = mk c l; turn = pend i p st q }
-    take-waits h = go (callerCode p st) refl
-      where
-        go : (z : ℤ) → callerCode p st ≡ z → takeOut i p st (mk c l) q ≡ record { num = mk c l; turn = pend i p st q }
-        go (pos k) z = let y : c ≤ 0 = omega arith in rw (f, z, le-ltb 0 c y, unsettled (parked (entry p i) q .code))
-        go (negsuc k) z = rw (f, z)
-
-  reset-all : (room : ℕ) → length q ≤ room
-      → resetOut room (mk c l) q ≡ record { num = mk 0 l; turn = record { code = pos (length q); queue = []; woken = map (woken eagain) q } }
-  reset-all room h = rw (le-leb (length q) room h, f, length-map q ident)
-
-  get-number : (g : Sem → List ℕ → ℕ) → getOut g (mk c l) q ≡ record { num = mk c l; turn = record { code = pos (g (mk c l) q); queue = q; woken = [] } }
-  get-number g = rw f
-
-reset-no : (room c l : ℕ) (q : List ℕ) → room < length q → resetOut room (mk c l) q ≡ refused einval (mk c l) q
-reset-no room c l q h = rw (lt-leb (length q) room h)
-
-pub reset-malformed : (room : ℕ) (s : Sem) (q : List ℕ) → formed s (any q) ≡ false → resetOut room s q ≡ refused einval s q
-reset-malformed room s q f = rw f (cond-same (leb (length q) room) (refused einval s q))
-
-pub get-malformed : (g : Sem → List ℕ → ℕ) (s : Sem) (q : List ℕ) → formed s (any q) ≡ false → getOut g s q ≡ refused einval s q
-get-malformed g s q f = rw f
+  made : (c l : ℕ) → 3 ≤ length h → Header layout h (mk c l) 0 (set (set (set h 0 c) 1 l) 2 0)
+  made c l k =
+      let x : length (set h 0 c) ≡ length h = length-set h 0 c in
+      let y : length (set (set h 0 c) 1 l) ≡ length (set h 0 c) = length-set (set h 0 c) 1 l in
+      let a : getD (set h 0 c) 0 0 ≡ c = getD-set-same h 0 c 0 (omega arith) in
+      let b : getD (set (set h 0 c) 1 l) 1 0 ≡ l = getD-set-same (set h 0 c) 1 l 0 (omega arith) in
+      let d : getD (set (set h 0 c) 1 l) 0 0 ≡ getD (set h 0 c) 0 0 = getD-set-other (set h 0 c) 1 0 l 0 (λ q. absurd (omega arith)) in
+      let n : layout .num (set (set h 0 c) 1 l) ≡ mk c l = rw (b, d, a) in
+      let u : getD (set (set (set h 0 c) 1 l) 2 0) 0 0 ≡ getD (set (set h 0 c) 1 l) 0 0 = getD-set-other (set (set h 0 c) 1 l) 2 0 0 0 (λ q. absurd (omega arith)) in
+      let v : getD (set (set (set h 0 c) 1 l) 2 0) 1 0 ≡ getD (set (set h 0 c) 1 l) 1 0 = getD-set-other (set (set h 0 c) 1 l) 2 1 0 0 (λ q. absurd (omega arith)) in
+      written layout h 2 0 (written layout h 1 l (counted c k) (omega arith) n refl) (omega arith) (rw (u, v, b, d, a)) (getD-set-same (set (set h 0 c) 1 l) 2 0 0 (omega arith))
 
 module _ (h e : List ℕ) where
-  -- give
   abbrev pub Gave : ℕ → ℤ → List ℕ → ℕ → Type 0
-  Gave w r h' w' = Does layout giveOut h e r h' e × Told (on layout giveOut h e .turn .woken) w w'
+  Gave = Tells layout giveOut h e
 
   pub gave-no : (w : ℕ) → sane sem-kind layout h e ≡ false → Gave w einval h w
-  gave-no w s = (
-    rejected sem-kind layout h e giveOut (call-refuses sem-kind layout h e plain anyone give) s,
-    rw (malformed sem-kind layout h e giveOut (call-refuses sem-kind layout h e plain anyone give) s) refl,
-  )
+  gave-no w s = silent layout giveOut h e 21 (call-no sem-kind layout plain anyone give h e s) w
 
-  -- try_take
   pub tried-no : sane sem-kind layout h e ≡ false → Does layout tryTakeOut h e einval h e
-  tried-no s = rejected sem-kind layout h e tryTakeOut (call-refuses sem-kind layout h e plain anyone tryTake) s
+  tried-no s = refuses layout tryTakeOut h e 21 (call-no sem-kind layout plain anyone tryTake h e s)
 
   pub took-no : (i p st : ℕ) → sane sem-kind layout h e ≡ false → Does layout (takeOut i p st) h e einval h e
-  took-no i p st s = rejected sem-kind layout h e (takeOut i p st) (call-refuses sem-kind layout h e plain (thread i p st) take) s
+  took-no i p st s = refuses layout (takeOut i p st) h e 21 (call-no sem-kind layout plain (thread i p st) take h e s)
 
-  -- reset
   abbrev pub Cleared : List ℕ → ℤ → List ℕ → List ℕ → Type 0
-  Cleared out r h' out' = Does layout (resetOut (length out)) h e r h' e × Listed (on layout (resetOut (length out)) h e .turn .woken) out out'
+  Cleared out = Lists layout (resetOut (length out)) h e out
 
   pub cleared-no : (out : List ℕ) → sane sem-kind layout h e ≡ false → Cleared out einval h out
-  cleared-no out s = (
-    rejected sem-kind layout h e (resetOut (length out)) (reset-malformed (length out)) s,
-    rw (malformed sem-kind layout h e (resetOut (length out)) (reset-malformed (length out)) s) refl,
-  )
+  cleared-no out s =
+      unlisted layout (resetOut (length out)) h e 21
+      (malformed sem-kind layout h e (resetOut (length out)) (handed-no sem-kind plain anyone reset (length out)) s) out
 
   pub got-no : (g : Sem → List ℕ → ℕ) → sane sem-kind layout h e ≡ false → einval ≡ on layout (getOut g) h e .turn .code
-  got-no g s = rw (malformed sem-kind layout h e (getOut g) (get-malformed g) s) refl
+  got-no g s = unseen sem-kind layout (λ n q. pos (g n q)) h e s
 
   module _ (s : sane sem-kind layout h e ≡ true) where
-    whole : Sane sem-kind layout h e
-    whole = is-sane sem-kind layout h e s
-
     pub words : 3 ≤ length h
-    words = whole .housed .words
-
-    pub room : roomy (getD h 2 0) e ≡ true
-    room = whole .housed .room
-
-    right : formed (layout .num h) (any (waiting e (getD h 2 0))) ≡ true
-    right = formed-queue sem-kind layout h e whole
+    words = is-sane sem-kind layout h e s .housed .words
 
     pub limit-fine : Fine (getD h 0 0) (getD h 1 0) (ltb 0 (getD h 2 0))
-    limit-fine = is-fine (getD h 0 0) (getD h 1 0) (ltb 0 (getD h 2 0)) (whole .numbers)
-
-    counted : (f : Sem → List ℕ → Out Sem) (r x : ℕ)
-        → f (layout .num h) (waiting e (getD h 2 0)) ≡ record { num = mk x (getD h 1 0); turn = record { code = pos r; queue = waiting e (getD h 2 0); woken = [] } }
-        → Does layout f h e (pos r) (set h 0 x) e
-    counted f r x t =
-        renumbered layout f h e r (mk x (getD h 1 0)) (set h 0 x) (whole .housed) t (count-set h x words) (len-kept h x)
-        (drop-set-lt 3 h 0 x (omega arith)) (length-set h 0 x)
+    limit-fine = is-fine (getD h 0 0) (getD h 1 0) (ltb 0 (getD h 2 0)) (is-sane sem-kind layout h e s .numbers)
 
     pub gave-woke : (w w' : ℕ) (r : ℤ) (k : ℕ) → 0 < getD h 2 0 → queue.Does (unpendFirst ok) (getD h 2 0) e r k e
         → Told (at (unpendFirst ok) (getD h 2 0) e .woken) w w' → Gave w woke (set h 2 k) w'
     gave-woke w w' r k z d t =
-        let o = give-wakes (getD h 0 0) (getD h 1 0) e (getD h 2 0) z room right in (
-          turned layout giveOut h e (unpendFirst ok) (layout .num h) 0 r k (set h 2 k) e (whole .housed) o d (num-kept h k) (len-set h k words)
-              (drop-set-lt 3 h 2 k (omega arith)) (length-set h 2 k),
-          rw (is-on layout giveOut h e (whole .housed) ∙ o) t,
-        )
+        wakes sem-kind layout plain anyone give h e s 0 refl (layout .num h) ok 0 (set h 2 k) r k w w' (rw (any-line e (getD h 2 0), lt-ltb 0 (getD h 2 0) z)) z d t
+        (fewer h k words)
+
+    alone : getD h 2 0 ≡ 0 → any (map ident (waiting e (getD h 2 0))) ≡ false
+    alone z = rw (any-line e (getD h 2 0), z) refl
 
     pub gave-count : (w : ℕ) → getD h 2 0 ≡ 0 → getD h 0 0 < getD h 1 0 → Gave w incremented (set h 0 (getD h 0 0 + 1)) w
     gave-count w z k =
-        let o = give-counts (getD h 0 0) (getD h 1 0) e (getD h 2 0) z right k in
-        rw add-one (counted giveOut 1 (suc (getD h 0 0)) o, rw (is-on layout giveOut h e (whole .housed) ∙ o) refl)
+        rw add-one
+        (keeps sem-kind layout plain anyone give h e s 0 refl (counting (suc (getD h 0 0)) (layout .num h)) 1 (set h 0 (suc (getD h 0 0))) w
+        (rw (alone z, lt-ltb (getD h 0 0) (getD h 1 0) k)) (counted h (suc (getD h 0 0)) words))
 
     pub gave-full : (w : ℕ) → getD h 2 0 ≡ 0 → getD h 1 0 ≤ getD h 0 0 → Gave w saturated h w
     gave-full w z k =
-        let o = give-full (getD h 0 0) (getD h 1 0) e (getD h 2 0) z right k in (
-          renumbered layout giveOut h e 2 (layout .num h) h (whole .housed) o refl refl refl refl,
-          rw (is-on layout giveOut h e (whole .housed) ∙ o) refl,
-        )
+        keeps sem-kind layout plain anyone give h e s 0 refl (layout .num h) 2 h w (rw (alone z, le-ltb (getD h 0 0) (getD h 1 0) k)) (same-header layout h)
 
     pub tried-one : 0 < getD h 0 0 → Does layout tryTakeOut h e ok (set h 0 (getD h 0 0 - 1)) e
-    tried-one k = counted tryTakeOut 0 (getD h 0 0 - 1) (try-takes (getD h 0 0) (getD h 1 0) (waiting e (getD h 2 0)) right k)
+    tried-one k =
+        keeps sem-kind layout plain anyone tryTake h e s 0 refl (counting (getD h 0 0 - 1) (layout .num h)) 0 (set h 0 (getD h 0 0 - 1)) 0 (rw (lt-ltb 0 (getD h 0 0) k))
+        (counted h (getD h 0 0 - 1) words)
+        .0
 
     pub tried-busy : getD h 0 0 ≡ 0 → Does layout tryTakeOut h e ebusy h e
-    tried-busy k = denied layout tryTakeOut h e 15 (whole .housed) (try-busy (getD h 0 0) (getD h 1 0) (waiting e (getD h 2 0)) right k)
+    tried-busy k =
+        let z : getD h 0 0 ≤ 0 = omega arith in
+        refuses layout tryTakeOut h e 15 (call-denied sem-kind layout plain anyone tryTake h e s 0 refl 15 (rw (le-ltb 0 (getD h 0 0) z)))
 
     module _ (i p st : ℕ) where
       pub took-caller : (k : ℕ) → callerCode p st ≡ negsuc k → Does layout (takeOut i p st) h e (negsuc k) h e
-      took-caller k z =
-          denied layout (takeOut i p st) h e k (whole .housed) (take-caller (getD h 0 0) (getD h 1 0) (waiting e (getD h 2 0)) right i p st k z)
+      took-caller k z = refuses layout (takeOut i p st) h e k (call-barred sem-kind layout plain (thread i p st) take h e s k z)
 
       pub took-one : (k : ℕ) → callerCode p st ≡ pos k → 0 < getD h 0 0 → Does layout (takeOut i p st) h e ok (set h 0 (getD h 0 0 - 1)) e
       took-one k z y =
-          counted (takeOut i p st) 0 (getD h 0 0 - 1) (take-takes (getD h 0 0) (getD h 1 0) (waiting e (getD h 2 0)) right i p st k z y)
-
-      took-in : getD h 0 0 ≡ 0 → (r : ℤ) (m : ℕ) (e' : List ℕ) → queue.Does (pend i p st) (getD h 2 0) e r m e'
-          → Does layout (takeOut i p st) h e r (set h 2 m) e'
-      took-in y r m e' d =
-          followed layout (takeOut i p st) h e (pend i p st) r m e' (whole .housed) (omega arith)
-          (take-waits (getD h 0 0) (getD h 1 0) (waiting e (getD h 2 0)) right i p st y ∙ rw room) d (num-kept h m)
+          keeps sem-kind layout plain (thread i p st) take h e s k z (counting (getD h 0 0 - 1) (layout .num h)) 0 (set h 0 (getD h 0 0 - 1)) 0 (rw (lt-ltb 0 (getD h 0 0) y))
+          (counted h (getD h 0 0 - 1) words)
+          .0
 
     module _ (out : List ℕ) where
+      resets : verdict sem-kind layout plain anyone reset h e ≡ allow (counting 0 (layout .num h)) (wake everybody (λ t. eagain)) (pos (length (waiting e (getD h 2 0))))
+      resets = rw (length-line e (getD h 2 0))
+
       pub cleared-short : length out < getD h 2 0 → Cleared out einval h out
-      cleared-short z =
-          let y : length out < length (waiting e (getD h 2 0)) = rw (back-length e (getD h 2 0)) z in
-          let o = reset-no (length out) (getD h 0 0) (getD h 1 0) (waiting e (getD h 2 0)) y in
-          (denied layout (resetOut (length out)) h e 21 (whole .housed) o, rw (is-on layout (resetOut (length out)) h e (whole .housed) ∙ o) refl)
+      cleared-short z = no-place sem-kind layout plain anyone reset h e s 0 refl (counting 0 (layout .num h)) eagain resets out z
 
       pub cleared-all : (r : ℤ) (k : ℕ) (out' : List ℕ) → getD h 2 0 ≤ length out → queue.Does (unpendAll eagain (length out)) (getD h 2 0) e r k e
           → Listed (at (unpendAll eagain (length out)) (getD h 2 0) e .woken) out out' → Cleared out r (set (set h 0 0) 2 k) out'
       cleared-all r k out' z d t =
-          let y : length (waiting e (getD h 2 0)) ≤ length out = rw (back-length e (getD h 2 0)) z in
-          let a : at (unpendAll eagain (length out)) (getD h 2 0) e
-          ≡ record { code = pos (length (waiting e (getD h 2 0))); queue = []; woken = map (woken eagain) (waiting e (getD h 2 0)) } =
-          rw (room, le-leb (length (waiting e (getD h 2 0))) (length out) y) in
-          let o : resetOut (length out) (layout .num h) (waiting e (getD h 2 0))
-          ≡ record {
-            num = mk 0 (getD h 1 0);
-            turn =
-                record {
-                  code = pos (length (waiting e (getD h 2 0)));
-                  queue = at (unpendAll eagain (length out)) (getD h 2 0) e .queue;
-                  woken = at (unpendAll eagain (length out)) (getD h 2 0) e .woken;
-                };
-          } = reset-all (getD h 0 0) (getD h 1 0) (waiting e (getD h 2 0)) right (length out) y ∙ rw a in
-          let c : r ≡ pos (length (waiting e (getD h 2 0))) = d .code ∙ rw a in
-          let w : 3 ≤ length (set h 0 0) = omega (arith, words, length-set h 0 0) in
-          rw c (
-            turned layout (resetOut (length out)) h e (unpendAll eagain (length out)) (mk 0 (getD h 1 0)) (length (waiting e (getD h 2 0))) r k
-                (set (set h 0 0) 2 k) e (whole .housed) o d (num-kept (set h 0 0) k ∙ count-set h 0 words) (len-set (set h 0 0) k w)
-                (drop-set-lt 3 (set h 0 0) 2 k (omega arith) ∙ drop-set-lt 3 h 0 0 (omega arith)) (length-set (set h 0 0) 2 k ∙ length-set h 0 0),
-            rw (is-on layout (resetOut (length out)) h e (whole .housed) ∙ o) t,
-          )
+          wakes-all sem-kind layout plain anyone reset h e s 0 refl (counting 0 (layout .num h)) eagain resets out (set (set h 0 0) 2 k) r k out' z d t (cleared h k words)
 
     pub got : (g : Sem → List ℕ → ℕ) → pos (g (layout .num h) (waiting e (getD h 2 0))) ≡ on layout (getOut g) h e .turn .code
-    got g = rw (is-on layout (getOut g) h e (whole .housed) ∙ get-number (getD h 0 0) (getD h 1 0) (waiting e (getD h 2 0)) right g) refl
+    got g = seen sem-kind layout (λ n q. pos (g n q)) h e s
 
 -- what the words show one by one
 module _ (h e : List ℕ) where
-  pub small-no : sized layout h e ≡ false → sane sem-kind layout h e ≡ false
+  pub small-no : sized 3 h e ≡ false → sane sem-kind layout h e ≡ false
   small-no z = unsized sem-kind layout h e z
 
-  module _ (z : sized layout h e ≡ true) where
+  module _ (z : sized 3 h e ≡ true) where
     pub its-words : 3 ≤ length h
     its-words = sized-words sem-kind layout h e z
 
@@ -285,36 +211,18 @@ module _ (h e : List ℕ) where
     -- the thread waits, whatever the queue says
     pub took-turn : (i p st : ℕ) → getD h 0 0 ≡ 0 → 0 < getD h 1 0 → (r : ℤ) (m : ℕ) (e' : List ℕ) → queue.Does (pend i p st) (getD h 2 0) e r m e'
         → Does layout (takeOut i p st) h e r (set h 2 m) e'
-    took-turn i p st y k r m e' d = go (roomy (getD h 2 0) e) refl
-      where
-        fine : formed (layout .num h) (ltb 0 (getD h 2 0)) ≡ true
-        fine = fine-is (getD h 0 0) (getD h 1 0) (ltb 0 (getD h 2 0)) k (omega arith) (λ q. y)
-
-        go : (b : Bool) → roomy (getD h 2 0) e ≡ b → Does layout (takeOut i p st) h e r (set h 2 m) e'
-        go true x = took-in h e (roomy-sane sem-kind layout h e z x fine) i p st y r m e' d
-        go false x = followed-out layout (takeOut i p st) h e (pend i p st) r m e' its-words x d
+    took-turn i p st y k r m e' d =
+        let c : getD h 0 0 ≤ 0 = omega arith in
+        waits-now sem-kind layout plain i p st take h e tt (pos 1) r m e' (omega arith) z
+        (fine-is (getD h 0 0) (getD h 1 0) (ltb 0 (getD h 2 0)) k (omega arith) (λ q. y)) (rw (le-ltb 0 (getD h 0 0) c)) d (num-kept h m)
 
 -- init
 module _ (c l : ℕ) (h : List ℕ) where
-  pub start-short : length h < 3 → Started c l h einval h
-  start-short k = record { code = rw (lt-leb 3 (length h) k); made = λ z. absurd (let y : _≡_ {A = ℕ} 0 1 = cc in omega arith); kept = refl; beside = refl; long = refl }
+  pub short : length h < 3 → Starts c l h einval h
+  short k = start-short sem-kind layout (mk c l) h k
 
-  pub start-bad : 3 ≤ length h → formed (mk c l) false ≡ false → Started c l h einval h
-  start-bad k f =
-      record { code = rw (le-leb 3 (length h) k, f); made = λ z. absurd (let y : _≡_ {A = ℕ} 0 1 = cc in omega arith); kept = refl; beside = refl; long = refl }
+  pub bad : 3 ≤ length h → formed (mk c l) false ≡ false → Starts c l h einval h
+  bad k f = start-bad sem-kind layout (mk c l) h k f
 
-  pub start-made : 3 ≤ length h → formed (mk c l) false ≡ true → Started c l h ok (set (set (set h 0 c) 1 l) 2 0)
-  start-made k f =
-      let x : length (set h 0 c) ≡ length h = length-set h 0 c in
-      let y : length (set (set h 0 c) 1 l) ≡ length (set h 0 c) = length-set (set h 0 c) 1 l in
-      let a : getD (set h 0 c) 0 0 ≡ c = getD-set-same h 0 c 0 (omega arith) in
-      let b : getD (set (set h 0 c) 1 l) 1 0 ≡ l = getD-set-same (set h 0 c) 1 l 0 (omega arith) in
-      let d : getD (set (set h 0 c) 1 l) 0 0 ≡ getD (set h 0 c) 0 0 = getD-set-other (set h 0 c) 1 0 l 0 (λ q. absurd (omega arith)) in
-      record {
-        code = rw (le-leb 3 (length h) k, f);
-        made = λ z. (num-kept (set (set h 0 c) 1 l) 0 ∙ rw (b, d, a), λ e. rw (len-set (set (set h 0 c) 1 l) 0 (omega arith)));
-        kept = tt;
-        beside =
-            drop-set-lt 3 (set (set h 0 c) 1 l) 2 0 (omega arith) ∙ drop-set-lt 3 (set h 0 c) 1 l (omega arith) ∙ drop-set-lt 3 h 0 c (omega arith);
-        long = length-set (set (set h 0 c) 1 l) 2 0 ∙ y ∙ x;
-      }
+  pub new : 3 ≤ length h → formed (mk c l) false ≡ true → Starts c l h ok (set (set (set h 0 c) 1 l) 2 0)
+  new k f = start-made sem-kind layout (mk c l) h (set (set (set h 0 c) 1 l) 2 0) k f (made h c l k)

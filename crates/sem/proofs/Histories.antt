@@ -10,12 +10,13 @@ use lib.ListN.{length}
 use Rattle.seq.specs.List.{any}
 use Rattle.wait_queue.specs.Queue.{ident, entry}
 use Rattle.wait_queue.specs.Turn.{parked}
+use Rattle.wait_queue.proofs.Well.{well-empty}
 use Rattle.kind.specs.Verdict.{upTo, Verdict, deny, allow, keep, park, wake}
-use Rattle.kind.specs.Object.{Out, refused, settled, Caller, anyone, thread, name, code, carried, asked, call}
-use Rattle.kind.specs.History.{Object, Event, calls, asks, leaves, next, run, Lasting}
-use Rattle.kind.proofs.Histories.{always}
+use Rattle.kind.specs.Kind.{plain}
+use Rattle.kind.specs.Object.{Out, refused, settled, Caller, named, thread, name, code, carried, asked, call}
+use Rattle.kind.specs.History.{Object, Event, calls, asks, leaves, next, Lasting}
+use Rattle.kind.proofs.Histories.{always, throughout}
 use Rattle.sem.specs.Sem.{Sem, Call, give, take, tryTake, reset, formed, decide, sem-kind}
-use Rattle.sem.specs.Post.{plain}
 use Rattle.sem.specs.History.{fresh, after, Promise}
 use Rattle.sem.proofs.Law.{mk, is-fine, idle, sem-lawful}
 
@@ -47,7 +48,7 @@ module _ (c l : ℕ) (q : List ℕ) where
   does : (w : Caller) (d : Verdict Sem (Unit {0})) → Limits l d → carried w d (mk c l) q .num .limit ≡ l
   does w (deny r) h = refl
   does w (allow m keep r) h = h
-  does anyone (allow m (park x) r) h = refl
+  does (named i) (allow m (park x) r) h = refl
   does (thread i p st) (allow m (park x) r) h = go (parked (entry p i) q .code)
     where
       go : (z : ℤ) → settled z m (mk c l) .limit ≡ l
@@ -72,13 +73,9 @@ module _ (c l : ℕ) (q : List ℕ) where
       (asks-limit (code w) (carried w (verdict w k) (mk c l) q) (does w (verdict w k) (decides c l plain (map ident q) (name w) k)))
 
 pub limit-next : (s : Object Sem) (x : Event Call) → next sem-kind plain s x .num .limit ≡ s .num .limit
-limit-next s (calls k) = calls-limit (s .num .count) (s .num .limit) (s .queue) anyone k
+limit-next s (calls i k) = calls-limit (s .num .count) (s .num .limit) (s .queue) (named i) k
 limit-next s (asks i p st h k) = calls-limit (s .num .count) (s .num .limit) (s .queue) (thread i p st) k
 limit-next s (leaves i) = refl
-
-limit-run : (s : Object Sem) (xs : List (Event Call)) → run sem-kind plain s xs .num .limit ≡ s .num .limit
-limit-run s [] = refl
-limit-run s (x ∷ xs) = limit-run (next sem-kind plain s x) xs ∙ limit-next s x
 
 somebody : (q : List ℕ) → 0 < length q → any q ≡ true
 somebody [] h = absurd (omega arith)
@@ -91,10 +88,9 @@ sem-history c l xs h k =
     let f = is-fine (s .num .count) (s .num .limit) (any (s .queue)) (t .good .numbers) in
     record {
       under = f .under;
-      limit = limit-run (fresh c l) xs;
+      limit =
+          throughout sem-kind sem-lawful plain (λ s. s .num .limit ≡ l) (λ s x g p. limit-next s x ∙ p) (fresh c l) xs
+          (record { numbers = idle c l k h; queue = well-empty }) refl;
       idle = λ z. f .empty (somebody (s .queue) z);
-      sorted = t .good .queue .sorted;
-      single = t .good .queue .single;
-      stable = t .stable;
-      order = t .order;
+      queue = t .queue;
     }

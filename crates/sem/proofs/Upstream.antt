@@ -12,22 +12,23 @@ use lib.ListN.{length, getD, length-map}
 use borrow.Author.Tests.{lt-ltb, le-ltb, ltb-false, le-leb, leb-false}
 use Rattle.seq.specs.List.{any}
 use Rattle.seq.proofs.Order.{clash, length-insert}
-use Rattle.thread.specs.Code.{ok, ebusy, einval}
+use Rattle.thread.specs.Code.{ok, eagain, ebusy, einval}
 use Rattle.thread.specs.Priority.{maxPriority}
 use Rattle.thread.specs.Thread.{running}
-use Rattle.wait_queue.specs.Queue.{maxWaiters, entry, prio, ident, waiting, holds, joined, Well}
+use Rattle.wait_queue.specs.Queue.{maxWaiters, entry, prio, ident, woken, waiting, holds, joined, Well}
 use Rattle.wait_queue.specs.Turn.{waits}
 use Rattle.wait_queue.proofs.Answers.{ident-entry}
-use Rattle.kind.specs.Object.{Out, refused, anyone, thread, on, Does, sane}
+use Rattle.kind.specs.Kind.{plain}
+use Rattle.kind.specs.Object.{Out, refused, anyone, thread, call, on, Does, sane}
 use Rattle.kind.specs.History.{Event, calls, asks, happens, Good, Lasting}
-use Rattle.kind.proofs.Memory.{Housed, is-on, malformed, call-refuses, unchanged}
+use Rattle.kind.proofs.Memory.{Housed, is-on, malformed, shown, barred}
 use Rattle.kind.proofs.Histories.{always, step}
 use Rattle.sem.specs.Sem.{Sem, Call, give, take, tryTake, reset, formed, sem-kind}
-use Rattle.sem.specs.Post.{layout, plain, giveOut, tryTakeOut, takeOut, resetOut, getOut, Started, GiveDecided, TakeDecided}
+use Rattle.sem.specs.Post.{layout, giveOut, tryTakeOut, takeOut, resetOut, getOut, Starts, GiveDecided, TakeDecided}
 use Rattle.sem.specs.Upstream.{Inv, Idle, GiveDecide, TakeDecide, Init, Give, TryTake, TakeBlocking, Reset, CountGet, LimitGet, NumWaiters}
 use Rattle.sem.specs.History.{fresh, after}
 use Rattle.sem.proofs.Law.{mk, Fine, is-fine, fine-is, idle, sem-lawful}
-use Rattle.sem.proofs.Answers.{reset-malformed, get-malformed}
+use Rattle.kind.proofs.Answers.{handed-no}
 use Rattle.sem.proofs.Histories.{limit-next, sem-history}
 
 -- decide functions
@@ -71,7 +72,7 @@ take-decide c w r d = record { acquires = takes w d; blocks = busy w d; pends = 
 well-none : Well []
 well-none = record { short = omega arith; sorted = tt; valid = tt; single = tt }
 
-pub sem-init : (c l : ℕ) (h : List ℕ) (r : ℤ) (h' e : List ℕ) → 3 ≤ length h → Started c l h r h' → Init c l r (layout .num h') (waiting e (getD h' 2 0))
+pub sem-init : (c l : ℕ) (h : List ℕ) (r : ℤ) (h' e : List ℕ) → 3 ≤ length h → Starts c l h r h' → Init c l r (layout .num h') (waiting e (getD h' 2 0))
 sem-init c l h r h' e k s = go (formed (mk c l) false) refl
   where
     code : r ≡ cond (formed (mk c l) false) ok einval
@@ -112,16 +113,6 @@ sem-init c l h r h' e k s = go (formed (mk c l) false) refl
           reason = λ q. why f;
         }
 
--- what a function on memory ensures, read off at its end
-module _ (f : Sem → List ℕ → Out Sem) (P : ℤ → Sem → List ℕ → Type 0) (h e : List ℕ) (r : ℤ) (h' e' : List ℕ) where
-  abbrev o : Out Sem
-  o = f (layout .num h) (waiting e (getD h 2 0))
-
-  seen : Does layout f h e r h' e' → Housed layout h e → P (o .turn .code) (o .num) (o .turn .queue) → P r (layout .num h') (waiting e' (getD h' 2 0))
-  seen d m p =
-      let q = is-on layout f h e m in
-      rw (d .code ∙ ap (λ (x : Out Sem). x .turn .code) q, d .num ∙ ap (λ (x : Out Sem). x .num) q, d .queue ∙ ap (λ (x : Out Sem). x .turn .queue) q) p
-
 -- the invariant with what it leaves out is our own
 module _ (c l : ℕ) (q : List ℕ) (i : Inv (mk c l) q) (z : Idle (mk c l) q) where
   filled : any q ≡ true → 0 < length q
@@ -147,8 +138,8 @@ module _ (c l : ℕ) (q : List ℕ) (i : Inv (mk c l) q) (z : Idle (mk c l) q) w
   gives : Give (mk c l) q (giveOut (mk c l) q .turn .code) (giveOut (mk c l) q .num) (giveOut (mk c l) q .turn .queue)
   gives =
       record {
-        inv = inv-after (calls give);
-        limit = limit-next (record { num = mk c l; queue = q }) (calls give);
+        inv = inv-after (calls 0 give);
+        limit = limit-next (record { num = mk c l; queue = q }) (calls 0 give);
         increments = up q form;
         saturates = full q form;
         kept = same q form;
@@ -174,8 +165,8 @@ module _ (c l : ℕ) (q : List ℕ) (i : Inv (mk c l) q) (z : Idle (mk c l) q) w
   tries : TryTake (mk c l) q (tryTakeOut (mk c l) q .turn .code) (tryTakeOut (mk c l) q .num) (tryTakeOut (mk c l) q .turn .queue)
   tries =
       record {
-        inv = inv-after (calls tryTake);
-        limit = limit-next (record { num = mk c l; queue = q }) (calls tryTake);
+        inv = inv-after (calls 0 tryTake);
+        limit = limit-next (record { num = mk c l; queue = q }) (calls 0 tryTake);
         waiters = stay (ltb 0 c) refl;
         taken = λ k. rw (form, lt-ltb 0 c k);
         acquired = λ k. rw (form, lt-ltb 0 c k);
@@ -205,12 +196,15 @@ module _ (c l : ℕ) (q : List ℕ) (i : Inv (mk c l) q) (z : Idle (mk c l) q) w
           stayed = λ k. absurd (k (ap (λ (o : Out Sem). o .turn .code) t));
         }
 
+  all-handed : (room : ℕ) → length q ≤ room → resetOut room (mk c l) q ≡ call sem-kind plain anyone reset (mk c l) q
+  all-handed room k = rw (form, length-map q (woken eagain), le-leb (length q) room k)
+
   resets : (room : ℕ) → length q ≤ room
       → Reset (mk c l) q (resetOut room (mk c l) q .turn .code) (resetOut room (mk c l) q .num) (resetOut room (mk c l) q .turn .queue)
   resets room k =
-      rw (le-leb (length q) room k)
+      rw (all-handed room k)
       (record {
-        inv = inv-after (calls reset);
+        inv = inv-after (calls 0 reset);
         count = rw form;
         limit = rw form;
         empty = rw form;
@@ -220,21 +214,21 @@ module _ (c l : ℕ) (q : List ℕ) (i : Inv (mk c l) q) (z : Idle (mk c l) q) w
 -- the functions on memory
 module _ (h e : List ℕ) (r : ℤ) (h' e' : List ℕ) (m : Housed layout h e) (i : Inv (layout .num h) (waiting e (getD h 2 0))) (z : Idle (layout .num h) (waiting e (getD h 2 0))) where
   pub sem-give : Does layout giveOut h e r h' e' → Give (layout .num h) (waiting e (getD h 2 0)) r (layout .num h') (waiting e' (getD h' 2 0))
-  sem-give d = seen giveOut (Give (layout .num h) (waiting e (getD h 2 0))) h e r h' e' d m (gives (getD h 0 0) (getD h 1 0) (waiting e (getD h 2 0)) i z)
+  sem-give d = shown layout giveOut (Give (layout .num h) (waiting e (getD h 2 0))) h e r h' e' d m (gives (getD h 0 0) (getD h 1 0) (waiting e (getD h 2 0)) i z)
 
   pub sem-try-take : Does layout tryTakeOut h e r h' e' → TryTake (layout .num h) (waiting e (getD h 2 0)) r (layout .num h') (waiting e' (getD h' 2 0))
-  sem-try-take d = seen tryTakeOut (TryTake (layout .num h) (waiting e (getD h 2 0))) h e r h' e' d m (tries (getD h 0 0) (getD h 1 0) (waiting e (getD h 2 0)) i z)
+  sem-try-take d = shown layout tryTakeOut (TryTake (layout .num h) (waiting e (getD h 2 0))) h e r h' e' d m (tries (getD h 0 0) (getD h 1 0) (waiting e (getD h 2 0)) i z)
 
   pub sem-take-blocking : (j p : ℕ) → j < 4294967296 → p < maxPriority → getD h 0 0 ≡ 0 → length (waiting e (getD h 2 0)) < maxWaiters → holds j (waiting e (getD h 2 0)) ≡ false
       → Does layout (takeOut j p running) h e r h' e' → TakeBlocking (layout .num h) (waiting e (getD h 2 0)) r (layout .num h') (waiting e' (getD h' 2 0))
   sem-take-blocking j p s v n w a d =
-      seen (takeOut j p running) (TakeBlocking (layout .num h) (waiting e (getD h 2 0))) h e r h' e' d m
+      shown layout (takeOut j p running) (TakeBlocking (layout .num h) (waiting e (getD h 2 0))) h e r h' e' d m
       (blocks (getD h 0 0) (getD h 1 0) (waiting e (getD h 2 0)) i z j p s v n w a)
 
   pub sem-reset : (room : ℕ) → length (waiting e (getD h 2 0)) ≤ room → Does layout (resetOut room) h e r h' e'
       → Reset (layout .num h) (waiting e (getD h 2 0)) r (layout .num h') (waiting e' (getD h' 2 0))
   sem-reset room k d =
-      seen (resetOut room) (Reset (layout .num h) (waiting e (getD h 2 0))) h e r h' e' d m (resets (getD h 0 0) (getD h 1 0) (waiting e (getD h 2 0)) i z room k)
+      shown layout (resetOut room) (Reset (layout .num h) (waiting e (getD h 2 0))) h e r h' e' d m (resets (getD h 0 0) (getD h 1 0) (waiting e (getD h 2 0)) i z room k)
 
   gets : (g : Sem → List ℕ → ℕ) → r ≡ on layout (getOut g) h e .turn .code → r ≡ pos (g (layout .num h) (waiting e (getD h 2 0)))
   gets g d = d ∙ rw (is-on layout (getOut g) h e m, form (getD h 0 0) (getD h 1 0) (waiting e (getD h 2 0)) i z)
@@ -253,23 +247,20 @@ module _ (h e : List ℕ) (r : ℤ) (h' e' : List ℕ) (s : sane sem-kind layout
   abbrev Stays : Type 0
   Stays = (r ≡ einval) × (h' ≡ h) × (e' ≡ e)
 
-  stays : (f : Sem → List ℕ → Out Sem) → ((n : Sem) (q : List ℕ) → formed n (any q) ≡ false → f n q ≡ refused einval n q) → Does layout f h e r h' e' → Stays
-  stays f k d = unchanged layout f h e r h' e' 21 d (ap (λ (o : Out Sem). o .turn .code) (malformed sem-kind layout h e f k s))
-
   pub give-refuses : Does layout giveOut h e r h' e' → Stays
-  give-refuses d = stays giveOut (call-refuses sem-kind layout h e plain anyone give) d
+  give-refuses d = barred sem-kind layout h e giveOut r h' e' (λ n q z. rw z) s d
 
   pub try-take-refuses : Does layout tryTakeOut h e r h' e' → Stays
-  try-take-refuses d = stays tryTakeOut (call-refuses sem-kind layout h e plain anyone tryTake) d
+  try-take-refuses d = barred sem-kind layout h e tryTakeOut r h' e' (λ n q z. rw z) s d
 
   pub take-refuses : (j p st : ℕ) → Does layout (takeOut j p st) h e r h' e' → Stays
-  take-refuses j p st d = stays (takeOut j p st) (call-refuses sem-kind layout h e plain (thread j p st) take) d
+  take-refuses j p st d = barred sem-kind layout h e (takeOut j p st) r h' e' (λ n q z. rw z) s d
 
   pub reset-refuses : (room : ℕ) → Does layout (resetOut room) h e r h' e' → Stays
-  reset-refuses room d = stays (resetOut room) (reset-malformed room) d
+  reset-refuses room d = barred sem-kind layout h e (resetOut room) r h' e' (handed-no sem-kind plain anyone reset room) s d
 
   pub get-refuses : (g : Sem → List ℕ → ℕ) → r ≡ on layout (getOut g) h e .turn .code → r ≡ einval
-  get-refuses g d = d ∙ ap (λ (o : Out Sem). o .turn .code) (malformed sem-kind layout h e (getOut g) (get-malformed g) s)
+  get-refuses g d = d ∙ ap (λ (o : Out Sem). o .turn .code) (malformed sem-kind layout h e (getOut g) (λ n q z. rw z) s)
 
 -- upstream's lemmas
 -- lemma_invariant_inductive claims this in its comment: init makes the invariant, and every operation keeps it
@@ -296,4 +287,4 @@ give-saturation c l q i z = let g = gives c l q i z in omega (arith, g .inv .und
 -- lemma_reset_returns_to_clean_state claims this in its comment: a reset semaphore is a new one with count 0
 pub reset-clean : (c l room : ℕ) (q : List ℕ) → Inv (mk c l) q → Idle (mk c l) q → length q ≤ room
     → (resetOut room (mk c l) q .num ≡ fresh 0 l .num) × (resetOut room (mk c l) q .turn .queue ≡ fresh 0 l .queue)
-reset-clean c l room q i z k = rw (le-leb (length q) room k, form c l q i z) (refl, refl)
+reset-clean c l room q i z k = rw (all-handed c l q i z room k, form c l q i z) (refl, refl)

@@ -1,12 +1,12 @@
--- The worked run of document 01: a semaphore 0 of 2; threads 7 (priority 5), 3 (priority 2) and 9 (priority 5) take and wait; six gives.
+-- The worked run of document 01: a semaphore 0 of 2; threads 7 (priority 5), 3 (priority 2) and 9 (priority 5) take and wait; six gives by thread 1.
 use mathlib.Core.List.{List, [], _∷_, _++_, map}
 use Prim.Native.Nat.{ℕ, zero, suc, _<_}
 use native.Mathlib.Omega.{arith}
 use Rattle.thread.specs.Thread.{running}
 use Rattle.wait_queue.specs.Queue.{ident}
+use Rattle.kind.specs.Kind.{plain}
 use Rattle.kind.specs.History.{Object, Event, calls, asks, happens}
 use Rattle.sem.specs.Sem.{Sem, Call, give, take, sem-kind}
-use Rattle.sem.specs.Post.{plain}
 use Rattle.sem.specs.History.{after}
 
 -- the thread i of priority p takes
@@ -19,7 +19,7 @@ takes = taking 7 (omega arith) 5 ∷ taking 3 (omega arith) 2 ∷ taking 9 (omeg
 -- the three takes, then n gives
 abbrev pub gives : ℕ → List (Event Call)
 gives zero = []
-gives (suc n) = calls give ∷ gives n
+gives (suc n) = calls 1 give ∷ gives n
 
 abbrev pub worked : ℕ → Object Sem
 worked n = after 0 2 (takes ++ gives n)
@@ -32,4 +32,4 @@ abbrev pub count-at : ℕ → ℕ
 count-at n = worked n .num .count
 
 abbrev pub wakes : ℕ → List ℕ
-wakes n = happens sem-kind plain (worked n) (calls give) .turn .woken
+wakes n = happens sem-kind plain (worked n) (calls 1 give) .turn .woken

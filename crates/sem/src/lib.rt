@@ -10,9 +10,9 @@ ghost use Prim.Native.Nat.{ℕ};
 ghost use mathlib.Core.List.{List};
 ghost use lib.ListN.{length};
 ghost use Rattle.wait_queue.specs.Post.{Told, Listed};
-ghost use Rattle.kind.specs.Object.{on, Does, sized, sane, Audited};
+ghost use Rattle.kind.specs.Object.{on, Does, sane, Audited};
 ghost use Rattle.sem.specs.Sem.{Sem, formed as formedSem, sem-kind};
-ghost use Rattle.sem.specs.Post.{layout, giveOut, tryTakeOut, takeOut, resetOut, getOut, Started, GiveDecided, TakeDecided};
+ghost use Rattle.sem.specs.Post.{layout, giveOut, tryTakeOut, takeOut, resetOut, getOut, Starts, GiveDecided, TakeDecided};
 
 // What a give did: Gale's GiveDecision.
 pub const WOKE: i32 = 0;
@@ -35,16 +35,6 @@ fn numbers(count: u32, limit: u32, waits: bool) -> bool
         return count == 0;
     }
     count <= limit
-}
-
-// Whether the header and the entries have their room.
-fn housed(h: &[u32], e: &[u64]) -> bool
-    ensures { λ r. ⌜ r ≡ sized layout (now (h .entry)) (now (e .entry)) ⌝ }
-{
-    if h.len() < 3 {
-        return false;
-    }
-    wait_queue::fits(0, e)
 }
 
 // Whether the memory and the numbers are as they should be.
@@ -92,7 +82,7 @@ pub fn take_decide(count: u32, is_no_wait: bool) -> i32
 
 // OK; EINVAL: a limit of 0, or a count above it.
 pub fn init(h: &mut [u32], count: u32, limit: u32) -> i32
-    ensures { λ r. ⌜ Started count limit (now (h .entry)) r (now (h .exit)) ⌝ }
+    ensures { λ r. ⌜ Starts count limit (now (h .entry)) r (now (h .exit)) ⌝ }
 {
     if h.len() < 3 {
         return EINVAL;
@@ -111,7 +101,7 @@ pub fn give(h: &mut [u32], e: &[u64], who: &mut u64) -> i32
     ensures { λ r. ⌜ Does layout giveOut (now (h .entry)) (now (e .entry)) r (now (h .exit)) (now (e .entry)) ⌝ }
     ensures { λ r. ⌜ Told (on layout giveOut (now (h .entry)) (now (e .entry)) .turn .woken) (now (who .entry)) (now (who .exit)) ⌝ }
 {
-    if !housed(h, e) {
+    if !kind::housed(h, 3, e) {
         return EINVAL;
     }
     let waiting = h[2];
@@ -137,7 +127,7 @@ pub fn give(h: &mut [u32], e: &[u64], who: &mut u64) -> i32
 pub fn try_take(h: &mut [u32], e: &[u64]) -> i32
     ensures { λ r. ⌜ Does layout tryTakeOut (now (h .entry)) (now (e .entry)) r (now (h .exit)) (now (e .entry)) ⌝ }
 {
-    if !housed(h, e) {
+    if !kind::housed(h, 3, e) {
         return EINVAL;
     }
     let count = h[0];
@@ -161,7 +151,7 @@ pub fn try_take(h: &mut [u32], e: &[u64]) -> i32
 pub fn take_blocking(h: &mut [u32], e: &mut [u64], id: u32, priority: u32, state: u32) -> i32
     ensures { λ r. ⌜ Does layout (takeOut id priority state) (now (h .entry)) (now (e .entry)) r (now (h .exit)) (now (e .exit)) ⌝ }
 {
-    if !housed(h, e) {
+    if !kind::housed(h, 3, e) {
         return EINVAL;
     }
     let there = h[0];

@@ -7,7 +7,7 @@ ghost use lib.ListN.{length};
 ghost use Rattle.wait_queue.specs.Post.{Told, Listed};
 ghost use Rattle.kind.specs.Object.{on, Does, Audited};
 ghost use Rattle.sem.specs.Sem.{Sem, sem-kind};
-ghost use Rattle.sem.specs.Post.{layout, giveOut, tryTakeOut, takeOut, resetOut, getOut, Started, GiveDecided, TakeDecided};
+ghost use Rattle.sem.specs.Post.{layout, giveOut, tryTakeOut, takeOut, resetOut, getOut, Starts, GiveDecided, TakeDecided};
 
 #[no_mangle]
 pub extern "C" fn wq_sem_give_decide(count: u32, limit: u32, has_waiter: bool) -> i32
@@ -25,7 +25,7 @@ pub extern "C" fn wq_sem_take_decide(count: u32, is_no_wait: bool) -> i32
 
 #[no_mangle]
 pub extern "C" fn wq_sem_init(head: &mut [u32; 3], count: u32, limit: u32) -> i32
-    ensures { λ r. ⌜ Started count limit (now (head .entry)) r (now (head .exit)) ⌝ }
+    ensures { λ r. ⌜ Starts count limit (now (head .entry)) r (now (head .exit)) ⌝ }
 {
     sem::init(head, count, limit)
 }
