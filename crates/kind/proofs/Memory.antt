@@ -115,6 +115,19 @@ unchanged L f h e r h' e' k d o =
     let p : (h' ≡ h) × (e' ≡ e) = rw c at (d .kept) in
     (c, p .0, p .1)
 
+-- operations with the same outcome do the same
+pub alike : {N : Type 0} (L : Layout N) (f g : N → List ℕ → Out N) (h e : List ℕ) (r : ℤ) (h' e' : List ℕ) → on L f h e ≡ on L g h e → Does L f h e r h' e' → Does L g h e r h' e'
+alike L f g h e r h' e' o d =
+    record {
+      code = rw o at (d .code);
+      num = rw o at (d .num);
+      queue = rw o at (d .queue);
+      kept = d .kept;
+      beside = d .beside;
+      rest = d .rest;
+      long = d .long;
+    }
+
 -- what an operation leaves, read off in memory
 pub shown : {N : Type 0} (L : Layout N) (f : N → List ℕ → Out N) (P : ℤ → N → List ℕ → Type 0) (h e : List ℕ) (r : ℤ) (h' e' : List ℕ) → Does L f h e r h' e' → Housed L h e
     → P (f (L .num h) (waiting e (getD h (L .len) 0)) .turn .code) (f (L .num h) (waiting e (getD h (L .len) 0)) .num) (f (L .num h) (waiting e (getD h (L .len) 0)) .turn .queue)
@@ -155,6 +168,9 @@ module _ (K : Kind) (L : Layout (K .Num)) (h e : List ℕ) where
       go true true x y z = clash (none z y)
       go true false x y z = refl
       go false b x y z = refl
+
+  pub sane-sized : sane K L h e ≡ true → sized (L .words) h e ≡ true
+  sane-sized s = let m = is-sane s .housed in rw (le-leb (L .words) (length h) (m .words), roomy-zero (getD h (L .len) 0) e (m .room)) refl
 
   module _ (s : sized (L .words) h e ≡ true) where
     pub sized-words : L .words ≤ length h

@@ -9,14 +9,14 @@ use thread::MAX_PRIORITY;
 use thread::OK;
 use thread::RUNNING;
 ghost use mathlib.Core.Path.{_≡_};
-ghost use mathlib.Core.Bool.{true, false};
+ghost use mathlib.Core.Bool.{true, false, cond};
 ghost use mathlib.Core.List.{map};
 ghost use Prim.Native.Nat.{_+_, _*_, _%_, _≤_, _<_};
 ghost use lib.IntN.{pos};
 ghost use lib.ListN.{length, getD, drop};
 ghost use Rattle.seq.specs.Word.{word};
 ghost use Rattle.thread.specs.Caller.{callerCode};
-ghost use Rattle.wait_queue.specs.Queue.{maxWaiters, entry, woken, waiting, roomy, holds, joined, without};
+ghost use Rattle.wait_queue.specs.Queue.{maxWaiters, entry, woken, waiting, roomy, holds as holdsOf, joined, without};
 ghost use Rattle.wait_queue.specs.Turn.{at, pend as pendTurn, unpendFirst, unpendAll, remove as removeTurn};
 ghost use Rattle.wait_queue.specs.Post.{Does, Told, Listed, number, isEmpty, Audited};
 ghost use Rattle.wait_queue.specs.Parts.{sound, Searched, Shifted, Stopped, Packed};
@@ -137,7 +137,7 @@ fn has_few(e: &[u64], n: usize, id: u64) -> bool
 // All of them, with no early exit, so that several are compared at a time.
 fn has_many(e: &[u64], n: usize, id: u64) -> bool
     requires { ⌜ n ≤ length (now e) ⌝ }
-    ensures { λ r. ⌜ r ≡ holds id (waiting (now (e .entry)) n) ⌝ }
+    ensures { λ r. ⌜ r ≡ holdsOf id (waiting (now (e .entry)) n) ⌝ }
 {
     let mut hit = false;
     let mut i = 0;
@@ -153,7 +153,7 @@ fn has_many(e: &[u64], n: usize, id: u64) -> bool
 // Whether the thread id is among the first n.
 fn has(e: &[u64], n: usize, id: u64) -> bool
     requires { ⌜ n ≤ length (now e) ⌝ }
-    ensures { λ r. ⌜ r ≡ holds id (waiting (now (e .entry)) n) ⌝ }
+    ensures { λ r. ⌜ r ≡ holdsOf id (waiting (now (e .entry)) n) ⌝ }
 {
     if n < 4 {
         return has_three(e, n, id);
@@ -162,6 +162,16 @@ fn has(e: &[u64], n: usize, id: u64) -> bool
         return has_few(e, n, id);
     }
     has_many(e, n, id)
+}
+
+// Whether the thread id waits here.
+pub fn holds(n: u32, e: &[u64], id: u32) -> bool
+    ensures { λ r. ⌜ r ≡ cond (roomy n (now (e .entry))) (holdsOf id (waiting (now (e .entry)) n)) false ⌝ }
+{
+    if !fits(n, e) {
+        return false;
+    }
+    has(e, seq::wide(n), id as u64)
 }
 
 // Two at a time: entries that are to be woken before a new one of priority p, whose greatest entry is top, move up by one.

@@ -1,0 +1,356 @@
+-- How each answer of a function meets the mutex's definition. Assumes nothing.
+use mathlib.Core.Path.{_≡_, refl, sym, _∙_}
+use mathlib.Core.Bool.{Bool, true, false, cond, not}
+use mathlib.Core.List.{List, [], _∷_, map}
+use Prim.Native.Nat.{ℕ, zero, suc, _+_, _-_, _≤_, _<_}
+use native.Mathlib.Numerals.{add-one}
+use native.Mathlib.Omega.{arith}
+use lib.Dec.{ltb, eqb}
+use lib.IntN.{ℤ, pos, negsuc}
+use lib.ListN.{length, getD, set}
+use borrow.Author.Tests.{lt-ltb, le-ltb, ltb-true, ltb-false, eq-eqb, ne-eqb}
+use Rattle.seq.specs.List.{any}
+use Rattle.seq.proofs.Order.{clash}
+use Rattle.thread.specs.Code.{ok, eperm, enoent, ebusy, einval, edeadlk, eoverflow}
+use Rattle.thread.specs.Caller.{callerCode}
+use Rattle.wait_queue.specs.Queue.{ident, woken, waiting, roomy, holds}
+use Rattle.wait_queue.specs.Turn.{at, waits, pend, unpendFirst}
+use Rattle.wait_queue.specs.Post.{Told}
+use Rattle.wait_queue.specs.Post as queue
+use Rattle.kind.specs.Verdict.{upTo, keep, wake, Verdict, deny, allow}
+use Rattle.kind.specs.Kind.{plain}
+use Rattle.kind.specs.Object as object
+use Rattle.kind.specs.Object.{named, carried, on, Does, sane}
+use Rattle.kind.proofs.Memory.{Header, refuses, alike, is-sane, sane-sized}
+use Rattle.kind.proofs.Answers.{Tells, silent, verdict, call-no, call-barred, call-is, call-denied, keeps, wakes, waits-now, unseen, seen, start-short, start-made}
+use Rattle.mutex.specs.Mutex.{nobody, Mutex, lock, tryLock, unlock, release, formed, maxCount, released, unlocked, transferred, free, taken, counting, passes, mutex-kind}
+use Rattle.mutex.specs.Post.{ownerIn, layout, tryLockOut, unlockOut, lockOut, releaseOut, getOut, isLocked, ownerId, apart, Starts, Audited, unlockDeed, LockDecided, UnlockDecided}
+use Rattle.mutex.proofs.Law.{mk, free-fine, free-empty}
+
+-- on plain numbers
+module _ (c : ℕ) where
+  pub lock-null-bad : (u w : Bool) → 0 < c → LockDecided c true u w einval
+  lock-null-bad u w k i j q n p = rw (ne-eqb c 0 (λ z. absurd (omega arith)))
+
+  pub lock-null : (u w : Bool) → c ≡ 0 → LockDecided c true u w (pos 0)
+  lock-null u true k i j q n p = rw (p ∙ free-fine c false k refl)
+  lock-null u false k i j q n p = rw (p ∙ free-fine c false k refl)
+
+  empty : c ≡ 0 → ltb 0 c ≡ false
+  empty k = let z : c ≤ 0 = omega arith in le-ltb 0 c z
+
+  pub lock-empty : (u w : Bool) → c ≡ 0 → LockDecided c false u w einval
+  lock-empty true w k i j q n p = rw (empty k)
+  lock-empty false w k i j q n p = rw (empty k)
+
+  pub lock-over : (w : Bool) → c ≡ maxCount → LockDecided c false true w eoverflow
+  lock-over true k i j q n p =
+      let z : maxCount ≤ c = omega arith in rw (lt-ltb 0 c (omega arith), eq-eqb i i refl, le-ltb c maxCount z)
+  lock-over false k i j q n p =
+      let z : maxCount ≤ c = omega arith in rw (lt-ltb 0 c (omega arith), eq-eqb i i refl, le-ltb c maxCount z)
+
+  more : 0 < c → eqb (suc c) 1 ≡ false
+  more k = ne-eqb (suc c) 1 (λ z. absurd (omega arith))
+
+  pub lock-more : (w : Bool) → 0 < c → c < maxCount → LockDecided c false true w (pos 2)
+  lock-more true k l i j q n p = rw (lt-ltb 0 c k, eq-eqb i i refl, lt-ltb c maxCount l, more k)
+  lock-more false k l i j q n p = rw (lt-ltb 0 c k, eq-eqb i i refl, lt-ltb c maxCount l, more k)
+
+  pub lock-busy : 0 < c → LockDecided c false false true ebusy
+  lock-busy k i j q n p = rw (lt-ltb 0 c k, ne-eqb j i n)
+
+  pub lock-pend : 0 < c → LockDecided c false false false (pos 1)
+  lock-pend k i j q n p = rw (lt-ltb 0 c k, ne-eqb j i n)
+
+  pub unlock-null : (u : Bool) → UnlockDecided c true u einval
+  unlock-null u i j q n = go (formed (mk nobody c) (any q))
+    where
+      go : (b : Bool) → einval ≡ unlockDeed (cond b (deny einval) (deny einval))
+      go true = refl
+      go false = refl
+
+  pub unlock-empty : (u : Bool) → c ≡ 0 → UnlockDecided c false u einval
+  unlock-empty true k i j q n = rw (empty k)
+  unlock-empty false k i j q n = rw (empty k)
+
+  pub unlock-not : 0 < c → UnlockDecided c false false eperm
+  unlock-not k i j q n = rw (lt-ltb 0 c k, ne-eqb j i n)
+
+  pub unlock-more : 1 < c → UnlockDecided c false true released
+  unlock-more k i j q n = rw (lt-ltb 0 c (omega arith), eq-eqb i i refl, lt-ltb 1 c k)
+
+  pub unlock-one : 0 < c → c ≤ 1 → UnlockDecided c false true unlocked
+  unlock-one k l i j [] n = rw (lt-ltb 0 c k, eq-eqb i i refl, le-ltb 1 c l)
+  unlock-one k l i j (x ∷ q) n = rw (lt-ltb 0 c k, eq-eqb i i refl, le-ltb 1 c l)
+
+-- a header shows its four words
+pub record Four (h : List ℕ) : Type 0 where
+  pub flag : ℕ
+  pub owner : ℕ
+  pub count : ℕ
+  pub len : ℕ
+  pub rest : List ℕ
+  pub is : h ≡ flag ∷ owner ∷ count ∷ len ∷ rest
+
+four : (h : List ℕ) → 4 ≤ length h → Four h
+four [] k = absurd (omega arith)
+four (a ∷ []) k = absurd (omega arith)
+four (a ∷ b ∷ []) k = absurd (omega arith)
+four (a ∷ b ∷ c ∷ []) k = absurd (omega arith)
+four (a ∷ b ∷ c ∷ d ∷ t) k = record { flag = a; owner = b; count = c; len = d; rest = t; is = refl }
+
+module _ (h : List ℕ) (k : 4 ≤ length h) where
+  seized : (i : ℕ) → Header layout h (taken i) (getD h 3 0) (set (set (set h 0 1) 1 i) 2 1)
+  seized i = rw (four h k .is) (record { num = refl; len = refl; beside = refl; long = refl })
+
+  counted : (c : ℕ) → Header layout h (counting c (layout .num h)) (getD h 3 0) (set h 2 c)
+  counted c = rw (four h k .is) (record { num = refl; len = refl; beside = refl; long = refl })
+
+  freed : Header layout h free (getD h 3 0) (set (set h 0 0) 2 0)
+  freed = rw (four h k .is) (record { num = refl; len = refl; beside = refl; long = refl })
+
+  fewer : (n : ℕ) → layout .num (set h 3 n) ≡ layout .num h
+  fewer n = rw (four h k .is) refl
+
+  passed : (n i : ℕ) → ltb 0 (getD h 0 0) ≡ true → getD h 2 0 ≡ 1 → Header layout h (taken i) n (set (set h 3 n) 1 i)
+  passed n i f c =
+      let v : Four h = four h k in
+      let g : ltb 0 (v .flag) ≡ true = rw (v .is) at f in
+      let d : v .count ≡ 1 = rw (v .is) at c in
+      rw (v .is) (record { num = rw (g, d); len = refl; beside = refl; long = refl })
+
+  new : Header layout h free 0 (set (set (set h 0 0) 2 0) 3 0)
+  new = rw (four h k .is) (record { num = refl; len = refl; beside = refl; long = refl })
+
+-- what the numbers show
+module _ (f o c n : ℕ) (s : formed (mk (ownerIn f o) c) (ltb 0 n) ≡ true) where
+  flagged : 0 < c → ltb 0 f ≡ true
+  flagged k = go (ltb 0 f) refl
+    where
+      go : (b : Bool) → ltb 0 f ≡ b → b ≡ true
+      go true z = refl
+      go false z = absurd (omega (arith, free-empty c (ltb 0 n) (rw z at s) .0))
+
+  unflagged : c ≡ 0 → ltb 0 f ≡ false
+  unflagged k = go (ltb 0 f) refl
+    where
+      go : (b : Bool) → ltb 0 f ≡ b → b ≡ false
+      go true z = let y : ltb 0 c ≡ true = rw z at s in absurd (omega (arith, ltb-true 0 c y))
+      go false z = refl
+
+  counts : ltb 0 f ≡ true → 0 < c
+  counts z = ltb-true 0 c (rw z at s)
+
+  alone : ltb 0 f ≡ false → n ≤ 0
+  alone z = ltb-false 0 n (free-empty c (ltb 0 n) (rw z at s) .1)
+
+module _ (h e : List ℕ) where
+  pub tried-no : (i : ℕ) → sane mutex-kind layout h e ≡ false → Does layout (tryLockOut i) h e einval h e
+  tried-no i s = refuses layout (tryLockOut i) h e 21 (call-no mutex-kind layout plain (named i) tryLock h e s)
+
+  pub lock-no : (i p st : ℕ) → sane mutex-kind layout h e ≡ false → Does layout (lockOut i p st) h e einval h e
+  lock-no i p st s = refuses layout (lockOut i p st) h e 21 (call-no mutex-kind layout plain (object.thread i p st) lock h e s)
+
+  abbrev pub Unlocks : ℕ → ℕ → ℤ → List ℕ → ℕ → Type 0
+  Unlocks i = Tells layout (unlockOut i) h e
+
+  pub unlock-no : (i w : ℕ) → sane mutex-kind layout h e ≡ false → Unlocks i w einval h w
+  unlock-no i w s = silent layout (unlockOut i) h e 21 (call-no mutex-kind layout plain (named i) unlock h e s) w
+
+  pub release-no : (i p st : ℕ) → sane mutex-kind layout h e ≡ false → einval ≡ on layout (releaseOut i p st) h e .turn .code
+  release-no i p st s = rw (call-no mutex-kind layout plain (object.thread i p st) release h e s) refl
+
+  pub got-no : (g : Mutex → List ℕ → ℤ) → sane mutex-kind layout h e ≡ false → einval ≡ on layout (getOut g) h e .turn .code
+  got-no g s = unseen mutex-kind layout g h e s
+
+  module _ (s : sane mutex-kind layout h e ≡ true) where
+    fine : formed (mk (ownerIn (getD h 0 0) (getD h 1 0)) (getD h 2 0)) (ltb 0 (getD h 3 0)) ≡ true
+    fine = is-sane mutex-kind layout h e s .numbers
+
+    pub words : 4 ≤ length h
+    words = is-sane mutex-kind layout h e s .housed .words
+
+    pub held-flag : 0 < getD h 2 0 → ltb 0 (getD h 0 0) ≡ true
+    held-flag k = flagged (getD h 0 0) (getD h 1 0) (getD h 2 0) (getD h 3 0) fine k
+
+    pub free-flag : getD h 2 0 ≡ 0 → ltb 0 (getD h 0 0) ≡ false
+    free-flag k = unflagged (getD h 0 0) (getD h 1 0) (getD h 2 0) (getD h 3 0) fine k
+
+    pub flag-held : ltb 0 (getD h 0 0) ≡ true → 0 < getD h 2 0
+    flag-held k = counts (getD h 0 0) (getD h 1 0) (getD h 2 0) (getD h 3 0) fine k
+
+    -- try_lock
+    pub tried-free : (i : ℕ) → getD h 2 0 ≡ 0 → Does layout (tryLockOut i) h e ok (set (set (set h 0 1) 1 i) 2 1) e
+    tried-free i k =
+        keeps mutex-kind layout plain (named i) tryLock h e s 0 refl (taken i) 0 (set (set (set h 0 1) 1 i) 2 1) 0 (rw (free-flag k)) (seized h words i) .0
+
+    pub tried-other : (i : ℕ) → 0 < getD h 2 0 → (getD h 1 0 ≡ i → ⊥) → Does layout (tryLockOut i) h e ebusy h e
+    tried-other i k n =
+        refuses layout (tryLockOut i) h e 15
+        (call-denied mutex-kind layout plain (named i) tryLock h e s 0 refl 15 (rw (held-flag k, ne-eqb (getD h 1 0) i n)))
+
+    pub tried-over : (i : ℕ) → getD h 1 0 ≡ i → getD h 2 0 ≡ maxCount → Does layout (tryLockOut i) h e eoverflow h e
+    tried-over i o k =
+        let z : maxCount ≤ getD h 2 0 = omega arith in
+        refuses layout (tryLockOut i) h e 138
+        (call-denied mutex-kind layout plain (named i) tryLock h e s 0 refl 138
+        (rw (held-flag (omega arith), eq-eqb (getD h 1 0) i o, le-ltb (getD h 2 0) maxCount z)))
+
+    pub tried-again : (i : ℕ) → getD h 1 0 ≡ i → 0 < getD h 2 0 → getD h 2 0 < maxCount → Does layout (tryLockOut i) h e ok (set h 2 (getD h 2 0 + 1)) e
+    tried-again i o k m =
+        rw add-one
+        (keeps mutex-kind layout plain (named i) tryLock h e s 0 refl (counting (suc (getD h 2 0)) (layout .num h)) 0 (set h 2 (suc (getD h 2 0))) 0
+        (rw (held-flag k, eq-eqb (getD h 1 0) i o, lt-ltb (getD h 2 0) maxCount m)) (counted h words (suc (getD h 2 0)))
+        .0)
+
+    -- unlock
+    pub unlock-free : (i w : ℕ) → getD h 2 0 ≡ 0 → Unlocks i w einval h w
+    unlock-free i w k = silent layout (unlockOut i) h e 21 (call-denied mutex-kind layout plain (named i) unlock h e s 0 refl 21 (rw (free-flag k))) w
+
+    pub unlock-other : (i w : ℕ) → 0 < getD h 2 0 → (getD h 1 0 ≡ i → ⊥) → Unlocks i w eperm h w
+    unlock-other i w k n =
+        silent layout (unlockOut i) h e 0 (call-denied mutex-kind layout plain (named i) unlock h e s 0 refl 0 (rw (held-flag k, ne-eqb (getD h 1 0) i n))) w
+
+    pub unlock-nested : (i w : ℕ) → getD h 1 0 ≡ i → 1 < getD h 2 0 → Unlocks i w released (set h 2 (getD h 2 0 - 1)) w
+    unlock-nested i w o k =
+        keeps mutex-kind layout plain (named i) unlock h e s 0 refl (counting (getD h 2 0 - 1) (layout .num h)) 0 (set h 2 (getD h 2 0 - 1)) w
+        (rw (held-flag (omega arith), eq-eqb (getD h 1 0) i o, lt-ltb 1 (getD h 2 0) k)) (counted h words (getD h 2 0 - 1))
+
+    module _ (i w : ℕ) (o : getD h 1 0 ≡ i) (k : 0 < getD h 2 0) (l : getD h 2 0 ≤ 1) where
+      pub unlock-last : getD h 3 0 ≡ 0 → Unlocks i w unlocked (set (set h 0 0) 2 0) w
+      unlock-last z =
+          keeps mutex-kind layout plain (named i) unlock h e s 0 refl free 1 (set (set h 0 0) 2 0) w
+          (rw (held-flag k, eq-eqb (getD h 1 0) i o, le-ltb 1 (getD h 2 0) l, z)) (freed h words)
+
+      -- the new owner is the one that is told
+      hand : (n w' : ℕ) → 0 < n → roomy n e ≡ true → Told (at (unpendFirst ok) n e .woken) w w'
+          → passes (map ident (waiting e n)) ≡ allow (taken (ident w')) (wake (upTo 1) (λ t. ok)) transferred
+      hand zero w' b r t = absurd (omega arith)
+      hand (suc n) w' b r t = let y : w' ≡ woken ok (getD e n 0) = rw r at t in let z : ident w' ≡ ident (getD e n 0) = rw y (omega arith) in rw z
+
+      pub unlock-passed : (r : ℤ) (n w' : ℕ) → 0 < getD h 3 0 → queue.Does (unpendFirst ok) (getD h 3 0) e r n e
+          → Told (at (unpendFirst ok) (getD h 3 0) e .woken) w w' → Unlocks i w transferred (set (set h 3 n) 1 (ident w')) w'
+      unlock-passed r n w' z d t =
+          wakes mutex-kind layout plain (named i) unlock h e s 0 refl (taken (ident w')) ok 2 (set (set h 3 n) 1 (ident w')) r n w w'
+          (rw (held-flag k, eq-eqb (getD h 1 0) i o, le-ltb 1 (getD h 2 0) l) (hand (getD h 3 0) w' z (is-sane mutex-kind layout h e s .housed .room) t)) z d t
+          (passed h words n (ident w') (held-flag k) (omega arith))
+
+    module _ (i p st : ℕ) where
+      -- lock_blocking
+      pub lock-caller : (c : ℕ) → callerCode p st ≡ negsuc c → Does layout (lockOut i p st) h e (negsuc c) h e
+      lock-caller c z = refuses layout (lockOut i p st) h e c (call-barred mutex-kind layout plain (object.thread i p st) lock h e s c z)
+
+      pub lock-waits : 0 < getD h 0 0 → (getD h 1 0 ≡ i → ⊥) → (r : ℤ) (m : ℕ) (e' : List ℕ) → queue.Does (pend i p st) (getD h 3 0) e r m e'
+          → Does layout (lockOut i p st) h e r (set h 3 m) e'
+      lock-waits k n r m e' d =
+          waits-now mutex-kind layout plain i p st lock h e tt waits r m e' (omega arith) (sane-sized mutex-kind layout h e s) fine
+          (rw (lt-ltb 0 (getD h 0 0) k, ne-eqb (getD h 1 0) i n)) d (fewer h words m)
+
+      -- what is there, or its own, as without waiting
+      same-free : (c : ℕ) → callerCode p st ≡ pos c → ltb 0 (getD h 0 0) ≡ false → on layout (tryLockOut i) h e ≡ on layout (lockOut i p st) h e
+      same-free c z f =
+          call-is mutex-kind layout plain (named i) tryLock h e s 0 refl (allow (taken i) keep ok) (rw f)
+          ∙ sym (call-is mutex-kind layout plain (object.thread i p st) lock h e s c z (allow (taken i) keep ok) (rw f))
+
+      same-own : (c : ℕ) → callerCode p st ≡ pos c → ltb 0 (getD h 0 0) ≡ true → getD h 1 0 ≡ i → on layout (tryLockOut i) h e ≡ on layout (lockOut i p st) h e
+      same-own c z f o = go (ltb (getD h 2 0) maxCount) refl
+        where
+          go : (b : Bool) → ltb (getD h 2 0) maxCount ≡ b → on layout (tryLockOut i) h e ≡ on layout (lockOut i p st) h e
+          go true y =
+              let d : Verdict Mutex (Unit {0}) = allow (counting (suc (getD h 2 0)) (layout .num h)) keep ok in
+              call-is mutex-kind layout plain (named i) tryLock h e s 0 refl d (rw (f, eq-eqb (getD h 1 0) i o, y))
+              ∙ sym (call-is mutex-kind layout plain (object.thread i p st) lock h e s c z d (rw (f, eq-eqb (getD h 1 0) i o, y)))
+          go false y =
+              let d : Verdict Mutex (Unit {0}) = deny eoverflow in
+              call-is mutex-kind layout plain (named i) tryLock h e s 0 refl d (rw (f, eq-eqb (getD h 1 0) i o, y))
+              ∙ sym (call-is mutex-kind layout plain (object.thread i p st) lock h e s c z d (rw (f, eq-eqb (getD h 1 0) i o, y)))
+
+      pub lock-tries : (c : ℕ) → callerCode p st ≡ pos c → (0 < getD h 0 0 → getD h 1 0 ≡ i) → (r : ℤ) (h' : List ℕ) → Does layout (tryLockOut i) h e r h' e
+          → Does layout (lockOut i p st) h e r h' e
+      lock-tries c z o r h' d = alike layout (tryLockOut i) (lockOut i p st) h e r h' e (go (ltb 0 (getD h 0 0)) refl) d
+        where
+          go : (b : Bool) → ltb 0 (getD h 0 0) ≡ b → on layout (tryLockOut i) h e ≡ on layout (lockOut i p st) h e
+          go true f = same-own c z f (o (ltb-true 0 (getD h 0 0) f))
+          go false f = same-free c z f
+
+      -- release_decide
+      pub release-caller : (c : ℕ) → callerCode p st ≡ negsuc c → negsuc c ≡ on layout (releaseOut i p st) h e .turn .code
+      release-caller c z = rw (call-barred mutex-kind layout plain (object.thread i p st) release h e s c z) refl
+
+      module _ (c : ℕ) (z : callerCode p st ≡ pos c) where
+        outcome : (d : Verdict Mutex (Unit {0})) → verdict mutex-kind layout plain (object.thread i p st) release h e ≡ d
+            → on layout (releaseOut i p st) h e ≡ carried (object.thread i p st) d (layout .num h) (waiting e (getD h 3 0))
+        outcome d y = call-is mutex-kind layout plain (object.thread i p st) release h e s c z d y
+
+        pub release-free : getD h 2 0 ≡ 0 → einval ≡ on layout (releaseOut i p st) h e .turn .code
+        release-free k = rw (outcome (deny einval) (rw (free-flag k))) refl
+
+        pub release-other : 0 < getD h 2 0 → (getD h 1 0 ≡ i → ⊥) → eperm ≡ on layout (releaseOut i p st) h e .turn .code
+        release-other k n = rw (outcome (deny eperm) (rw (held-flag k, ne-eqb (getD h 1 0) i n))) refl
+
+        pub release-nested : getD h 1 0 ≡ i → 1 < getD h 2 0 → edeadlk ≡ on layout (releaseOut i p st) h e .turn .code
+        release-nested o k = rw (outcome (deny edeadlk) (rw (held-flag (omega arith), eq-eqb (getD h 1 0) i o, lt-ltb 1 (getD h 2 0) k))) refl
+
+        module _ (o : getD h 1 0 ≡ i) (k : 0 < getD h 2 0) (l : getD h 2 0 ≤ 1) where
+          last : (d : Verdict Mutex (Unit {0})) → passes (map ident (waiting e (getD h 3 0))) ≡ d
+              → on layout (releaseOut i p st) h e ≡ carried (object.thread i p st) d (layout .num h) (waiting e (getD h 3 0))
+          last d y = outcome d (rw (held-flag k, eq-eqb (getD h 1 0) i o, le-ltb 1 (getD h 2 0) l) y)
+
+          pub release-last : getD h 3 0 ≡ 0 → unlocked ≡ on layout (releaseOut i p st) h e .turn .code
+          release-last y = rw (last (allow free keep unlocked) (rw y)) refl
+
+          pub release-passed : 0 < getD h 3 0 → transferred ≡ on layout (releaseOut i p st) h e .turn .code
+          release-passed y = go (getD h 3 0) refl y
+            where
+              go : (n : ℕ) → getD h 3 0 ≡ n → 0 < n → transferred ≡ on layout (releaseOut i p st) h e .turn .code
+              go zero x b = absurd (omega arith)
+              go (suc n) x b = rw (last (allow (taken (ident (getD e n 0))) (wake (upTo 1) (λ t. ok)) transferred) (rw x)) refl
+
+    -- the numbers
+    pub got : (g : Mutex → List ℕ → ℤ) → g (layout .num h) (waiting e (getD h 3 0)) ≡ on layout (getOut g) h e .turn .code
+    got g = seen mutex-kind layout g h e s
+
+    module _ (k : 0 < getD h 0 0) where
+      pub got-locked : pos 1 ≡ on layout (getOut (λ m q. isLocked m)) h e .turn .code
+      got-locked = let z : isLocked (layout .num h) ≡ pos 1 = rw (lt-ltb 0 (getD h 0 0) k) in sym z ∙ got (λ m q. isLocked m)
+
+      pub got-owner : pos (getD h 1 0) ≡ on layout (getOut (λ m q. ownerId (m .owner))) h e .turn .code
+      got-owner = let z : ownerId (layout .num h .owner) ≡ pos (getD h 1 0) = rw (lt-ltb 0 (getD h 0 0) k) in sym z ∙ got (λ m q. ownerId (m .owner))
+
+    module _ (k : getD h 0 0 ≡ 0) where
+      pub got-free : pos 0 ≡ on layout (getOut (λ m q. isLocked m)) h e .turn .code
+      got-free = let z : isLocked (layout .num h) ≡ pos 0 = rw k in sym z ∙ got (λ m q. isLocked m)
+
+      pub got-nobody : enoent ≡ on layout (getOut (λ m q. ownerId (m .owner))) h e .turn .code
+      got-nobody = let z : ownerId (layout .num h .owner) ≡ enoent = rw k in sym z ∙ got (λ m q. ownerId (m .owner))
+
+  -- audit
+  pub audit-no : sane mutex-kind layout h e ≡ false → Audited h e false
+  audit-no s = record { sound = λ z. clash (sym z); complete = λ w. clash (sym (w .0) ∙ s) }
+
+  module _ (s : sane mutex-kind layout h e ≡ true) where
+    pub audit-bad : queue.Audited (getD h 3 0) e false → Audited h e false
+    audit-bad a = record { sound = λ z. clash (sym z); complete = λ w. a .complete (is-sane mutex-kind layout h e s .housed .room, w .1) }
+
+    module _ (a : queue.Audited (getD h 3 0) e true) (r : Bool) (g : apart (layout .num h .owner) (waiting e (getD h 3 0)) ≡ r) where
+      pub audit-owner : Audited h e r
+      audit-owner = record { sound = λ z. (s, a .sound refl .1, g ∙ z); complete = λ w. sym g ∙ w .2 }
+
+    pub free-apart : getD h 0 0 ≡ 0 → apart (layout .num h .owner) (waiting e (getD h 3 0)) ≡ true
+    free-apart z = rw z
+
+    pub owner-apart : (b : Bool) → 0 < getD h 0 0 → b ≡ cond (roomy (getD h 3 0) e) (holds (getD h 1 0) (waiting e (getD h 3 0))) false
+        → apart (layout .num h .owner) (waiting e (getD h 3 0)) ≡ not b
+    owner-apart b k z = rw (lt-ltb 0 (getD h 0 0) k, z, is-sane mutex-kind layout h e s .housed .room) (go (holds (getD h 1 0) (waiting e (getD h 3 0))))
+      where
+        go : (c : Bool) → cond c false true ≡ not c
+        go true = refl
+        go false = refl
+
+-- init
+module _ (h : List ℕ) where
+  pub short : length h < 4 → Starts h einval h
+  short k = start-short mutex-kind layout free h k
+
+  pub made : 4 ≤ length h → Starts h ok (set (set (set h 0 0) 2 0) 3 0)
+  made k = start-made mutex-kind layout free h (set (set (set h 0 0) 2 0) 3 0) k refl (new h k)

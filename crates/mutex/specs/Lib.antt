@@ -1,0 +1,3 @@
+pub mod Mutex
+pub mod Post
+pub mod History

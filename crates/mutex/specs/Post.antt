@@ -1,0 +1,99 @@
+-- The mutex in memory: h = whether it is owned (0: no), the owner, its count, how many wait; e = the entries of those. What each function
+-- does.
+use mathlib.Core.Path.{_≡_}
+use mathlib.Core.Bool.{Bool, true, false, cond}
+use mathlib.Core.List.{List}
+use Prim.Native.Nat.{ℕ}
+use lib.Dec.{eqb, ltb}
+use lib.IntN.{ℤ, pos}
+use lib.ListN.{getD}
+use Rattle.seq.specs.List.{any}
+use Rattle.thread.specs.Code.{enoent}
+use Rattle.wait_queue.specs.Queue.{waiting, holds, Well}
+use Rattle.kind.specs.Verdict.{keep, park, wake, Verdict, deny, allow}
+use Rattle.kind.specs.Kind.{judge, plain}
+use Rattle.kind.specs.Object as object
+use Rattle.kind.specs.Object.{Out, named, call, looks, Layout, Started, sane}
+use Rattle.mutex.specs.Mutex.{Owner, nobody, thread, Mutex, Call, lock, tryLock, unlock, release, held, formed, free, unlocked, mutex-kind}
+
+abbrev pub ownerIn : ℕ → ℕ → Owner
+ownerIn flag i = cond (ltb 0 flag) (thread i) nobody
+
+abbrev pub layout : Layout Mutex
+layout = record { words = 4; num = λ h. record { owner = ownerIn (getD h 0 0) (getD h 1 0); count = getD h 2 0 }; len = 3 }
+
+-- by the thread i
+abbrev pub tryLockOut : ℕ → Mutex → List ℕ → Out Mutex
+tryLockOut i = call mutex-kind plain (named i) tryLock
+
+abbrev pub unlockOut : ℕ → Mutex → List ℕ → Out Mutex
+unlockOut i = call mutex-kind plain (named i) unlock
+
+-- by the thread i of priority p in the state st
+abbrev pub lockOut : ℕ → ℕ → ℕ → Mutex → List ℕ → Out Mutex
+lockOut i p st = call mutex-kind plain (object.thread i p st) lock
+
+abbrev pub releaseOut : ℕ → ℕ → ℕ → Mutex → List ℕ → Out Mutex
+releaseOut i p st = call mutex-kind plain (object.thread i p st) release
+
+-- a number of a mutex that is as it should be
+abbrev pub getOut : (Mutex → List ℕ → ℤ) → Mutex → List ℕ → Out Mutex
+getOut f = looks mutex-kind f
+
+-- 1: somebody owns it; 0: nobody
+abbrev pub isLocked : Mutex → ℤ
+isLocked m = cond (held (m .owner)) (pos 1) (pos 0)
+
+-- the owner's id; -2: nobody
+abbrev pub ownerId : Owner → ℤ
+ownerId nobody = enoent
+ownerId (thread i) = pos i
+
+-- a new mutex
+abbrev pub Starts : List ℕ → ℤ → List ℕ → Type 0
+Starts = Started mutex-kind layout free
+
+-- the owner is not among those that wait
+abbrev pub apart : Owner → List ℕ → Bool
+apart nobody q = true
+apart (thread i) q = cond (holds i q) false true
+
+-- the answer is true exactly if the whole mutex is as it should be
+pub record Audited (h e : List ℕ) (r : Bool) : Type 0 where
+  pub sound : r ≡ true → (sane mutex-kind layout h e ≡ true) × Well (waiting e (getD h 3 0)) × (apart (layout .num h .owner) (waiting e (getD h 3 0)) ≡ true)
+  pub complete : (sane mutex-kind layout h e ≡ true) × Well (waiting e (getD h 3 0)) × (apart (layout .num h .owner) (waiting e (getD h 3 0)) ≡ true) → r ≡ true
+
+-- the decide functions are told whether there is an owner and whether it is the caller i; else the owner is another, j
+abbrev pub ownerOf : Bool → Bool → ℕ → ℕ → Owner
+ownerOf null current i j = cond null nobody (cond current (thread i) (thread j))
+
+-- what is to be done: the caller becomes the owner (0); it waits (1); it has one lock more (2)
+abbrev pub lockDeed : Verdict Mutex (Unit {0}) → ℤ
+lockDeed (deny r) = r
+lockDeed (allow m keep r) = cond (eqb (m .count) 1) (pos 0) (pos 2)
+lockDeed (allow m (park x) r) = pos 1
+lockDeed (allow m (wake p f) r) = r
+
+-- to free it and to hand it over are one
+abbrev pub unlockDeed : Verdict Mutex (Unit {0}) → ℤ
+unlockDeed (deny r) = r
+unlockDeed (allow m keep r) = r
+unlockDeed (allow m (park x) r) = r
+unlockDeed (allow m (wake p f) r) = unlocked
+
+abbrev pub lockCall : Bool → Call
+lockCall true = tryLock
+lockCall false = lock
+
+-- what the mutex's own definition answers, for every caller, every other owner, and every queue that makes numbers which are as they should
+-- be no worse: that somebody waits at a free mutex, the function is not told
+abbrev pub LockDecided : ℕ → Bool → Bool → Bool → ℤ → Type 0
+LockDecided count null current noWait r =
+    (i j : ℕ) (q : List ℕ) → (j ≡ i → ⊥)
+    → formed (record { owner = ownerOf null current i j; count = count }) (any q) ≡ formed (record { owner = ownerOf null current i j; count = count }) false
+    → r ≡ lockDeed (judge mutex-kind (record { owner = ownerOf null current i j; count = count }) plain q i (lockCall noWait))
+
+-- for every queue
+abbrev pub UnlockDecided : ℕ → Bool → Bool → ℤ → Type 0
+UnlockDecided count null current r =
+    (i j : ℕ) (q : List ℕ) → (j ≡ i → ⊥) → r ≡ unlockDeed (judge mutex-kind (record { owner = ownerOf null current i j; count = count }) plain q i unlock)
