@@ -4,22 +4,23 @@ use mathlib.Core.Bool.{Bool, true, false}
 use mathlib.Core.List.{List, [], _∷_, map}
 use Prim.Native.Nat.{ℕ, zero, suc, _≤_, _<_}
 use native.Mathlib.Omega.{arith}
-use lib.Dec.{ltb}
+use lib.Dec.{ltb, leb}
 use lib.IntN.{ℤ, pos, negsuc}
 use lib.ListN.{length, getD, set, take, length-map}
-use borrow.Author.Tests.{le-leb, lt-leb}
+use lib.Seq.{getD-set-same, set-getD}
+use borrow.Author.Tests.{le-leb, lt-leb, leb-true, leb-false}
 use Rattle.seq.specs.List.{any}
 use Rattle.seq.proofs.Back.{back-length}
 use Rattle.thread.specs.Code.{ok, einval}
 use Rattle.thread.specs.Caller.{callerCode}
 use Rattle.wait_queue.specs.Queue.{entry, ident, woken, waiting, roomy}
-use Rattle.wait_queue.specs.Turn.{Turn, at, parked, pend, unpendFirst, unpendAll}
+use Rattle.wait_queue.specs.Turn.{Turn, refuse, at, parked, pend, unpendFirst, unpendAll}
 use Rattle.wait_queue.specs.Post.{Told, Listed}
 use Rattle.wait_queue.specs.Post as queue
 use Rattle.kind.specs.Verdict.{upTo, everybody, keep, park, wake, Verdict, deny, allow}
 use Rattle.kind.specs.Kind.{Kind}
-use Rattle.kind.specs.Object.{Out, refused, settled, Caller, thread, name, code, carried, call, handed, looks, Layout, on, Does, Started, sized, sane}
-use Rattle.kind.proofs.Memory.{Header, is-on, refuses, renumbered, turned, followed, followed-out, any-waiting, Sane, is-sane, formed-queue, malformed, roomy-sane, sized-words}
+use Rattle.kind.specs.Object.{Out, refused, settled, Caller, thread, name, code, carried, call, handed, looks, Layout, on, Does, Started, sane}
+use Rattle.kind.proofs.Memory.{Header, same-header, written, is-on, refuses, renumbered, turned, followed, followed-out, any-waiting, Sane, is-sane, formed-queue, malformed}
 use Rattle.kind.proofs.Picks.{any-map}
 
 -- a verdict sees the threads of a queue in memory: somebody, exactly if its length is not 0, and as many
@@ -82,6 +83,18 @@ module _ (K : Kind) (L : Layout (K .Num)) (v : ℕ → K .Wish) (w : Caller) (k 
         renumbered L (call K v w k) h e r n h' (whole .housed) (carries (allow n keep (pos r)) y) t,
         rw (call-is (allow n keep (pos r)) y) refl,
       )
+
+      -- and nobody is listed
+      pub keeps-unlisted : (n : K .Num) (r : ℕ) (h' out : List ℕ) → verdict ≡ allow n keep (pos r) → Header L h n (getD h (L .len) 0) h'
+          → Lists L (handed (length out) (call K v w k)) h e out (pos r) h' out
+      keeps-unlisted n r h' out y t =
+          let z : 0 ≤ length out = omega arith in
+          let o = carries (allow n keep (pos r)) y in
+          let q : handed (length out) (call K v w k) (L .num h) (waiting e (getD h (L .len) 0)) ≡ call K v w k (L .num h) (waiting e (getD h (L .len) 0)) =
+          rw (o, le-leb 0 (length out) z) in (
+            renumbered L (handed (length out) (call K v w k)) h e r n h' (whole .housed) (q ∙ o) t,
+            rw (is-on L (handed (length out) (call K v w k)) h e (whole .housed) ∙ q ∙ o) refl,
+          )
 
       -- the first is woken with the result u
       first : (m : ℕ) (n : K .Num) (u a : ℤ) → 0 < m → roomy m e ≡ true
@@ -173,6 +186,25 @@ module _ (K : Kind) (L : Layout (K .Num)) (v : ℕ → K .Wish) (w : Caller) (k 
               rw (is-on L (handed (length out) (call K v w k)) h e (whole .housed) ∙ o) t,
             )
 
+      -- where no number changes, the queue's own answer is the object's
+      pub wakes-everybody : (u : ℤ) → verdict ≡ allow (L .num h) (wake everybody (λ t. u)) (pos (length (waiting e (getD h (L .len) 0)))) → L .len < L .words
+          → (a : ℤ) (m : ℕ) (out out' : List ℕ) → queue.Does (unpendAll u (length out)) (getD h (L .len) 0) e a m e
+          → Listed (at (unpendAll u (length out)) (getD h (L .len) 0) e .woken) out out' → L .num (set h (L .len) m) ≡ L .num h
+          → Lists L (handed (length out) (call K v w k)) h e out a (set h (L .len) m) out'
+      wakes-everybody u y b a m out out' d t x = go (leb (getD h (L .len) 0) (length out)) refl
+        where
+          go : (c : Bool) → leb (getD h (L .len) 0) (length out) ≡ c → Lists L (handed (length out) (call K v w k)) h e out a (set h (L .len) m) out'
+          go true z =
+              wakes-all (L .num h) u y out (set h (L .len) m) a m out' (leb-true (getD h (L .len) 0) (length out) z) d t
+              (written L h (L .len) m (same-header L h) b x (getD-set-same h (L .len) m 0 (omega (arith, whole .housed .words))))
+          go false z =
+              let l = back-length e (getD h (L .len) 0) in
+              let g : at (unpendAll u (length out)) (getD h (L .len) 0) e ≡ refuse einval (waiting e (getD h (L .len) 0)) = rw (whole .housed .room, l, z) in
+              let c : a ≡ einval = d .code ∙ ap (λ (t : Turn). t .code) g in
+              let j : (m ≡ getD h (L .len) 0) × (e ≡ e) = rw c at (d .kept) in
+              let i : out' ≡ out = rw g at t in
+              rw (c, j .0, i, set-getD h (L .len) 0) (no-place (L .num h) u y out (leb-false (getD h (L .len) 0) (length out) z))
+
 pub handed-no : (K : Kind) (v : ℕ → K .Wish) (w : Caller) (k : K .Call) (room : ℕ) (n : K .Num) (q : List ℕ) → K .formed n (any q) ≡ false
     → handed room (call K v w k) n q ≡ refused einval n q
 handed-no K v w k room n q z = let y : 0 ≤ room = omega arith in rw (z, le-leb 0 room y)
@@ -194,7 +226,7 @@ module _ (K : Kind) (L : Layout (K .Num)) (v : ℕ → K .Wish) (i p st : ℕ) (
       go (negsuc c) z = rw (f, z)
 
   -- whatever the queue answers
-  pub waits-now : (x : K .Wish) (a r : ℤ) (m : ℕ) (e' : List ℕ) → L .len < L .words → sized (L .words) h e ≡ true
+  pub waits-now : (x : K .Wish) (a r : ℤ) (m : ℕ) (e' : List ℕ) → L .len < L .words → L .words ≤ length h
       → K .formed (L .num h) (ltb 0 (getD h (L .len) 0)) ≡ true → verdict K L v (thread i p st) k h e ≡ allow (L .num h) (park x) a
       → queue.Does (pend i p st) (getD h (L .len) 0) e r m e' → L .num (set h (L .len) m) ≡ L .num h
       → Does L (call K v (thread i p st) k) h e r (set h (L .len) m) e'
@@ -202,9 +234,9 @@ module _ (K : Kind) (L : Layout (K .Num)) (v : ℕ → K .Wish) (i p st : ℕ) (
     where
       go : (c : Bool) → roomy (getD h (L .len) 0) e ≡ c → Does L (call K v (thread i p st) k) h e r (set h (L .len) m) e'
       go true o =
-          let g : Sane K L h e = is-sane K L h e (roomy-sane K L h e s o f) in
+          let g : Sane K L h e = record { housed = record { words = s; room = o }; numbers = f } in
           followed L (call K v (thread i p st) k) h e (pend i p st) r m e' (g .housed) b (parks x a (formed-queue K L h e g) y ∙ rw o) d u
-      go false o = followed-out L (call K v (thread i p st) k) h e (pend i p st) r m e' (sized-words K L h e s) o d
+      go false o = followed-out L (call K v (thread i p st) k) h e (pend i p st) r m e' s o d
 
 -- a number is read
 module _ (K : Kind) (L : Layout (K .Num)) (g : K .Num → List ℕ → ℤ) (h e : List ℕ) where

@@ -5,7 +5,7 @@ use mathlib.Core.List.{List, [], _∷_}
 use Prim.Native.Nat.{ℕ}
 use lib.Dec.{eqb}
 use borrow.Author.Tests.{eq-eqb, ne-eqb, eqb-false}
-use Rattle.seq.specs.List.{has, chosen, All, Sub, end, skip, have}
+use Rattle.seq.specs.List.{chosen, All, Sub, end, skip, have}
 use Rattle.seq.proofs.Order.{clash, all-map, has-insert}
 use Rattle.seq.proofs.Sub.{sub-has}
 use Rattle.wait_queue.specs.Queue.{prio, ident, of, holds, joined, Single}

@@ -169,9 +169,6 @@ module _ (K : Kind) (L : Layout (K .Num)) (h e : List ℕ) where
       go true false x y z = refl
       go false b x y z = refl
 
-  pub sane-sized : sane K L h e ≡ true → sized (L .words) h e ≡ true
-  sane-sized s = let m = is-sane s .housed in rw (le-leb (L .words) (length h) (m .words), roomy-zero (getD h (L .len) 0) e (m .room)) refl
-
   module _ (s : sized (L .words) h e ≡ true) where
     pub sized-words : L .words ≤ length h
     sized-words = go (leb (L .words) (length h)) refl s

@@ -4,10 +4,15 @@ use mathlib.Core.Bool.{Bool, true, false, cond}
 use mathlib.Core.List.{List, [], _∷_, map}
 use Prim.Native.Nat.{ℕ, zero, suc}
 use lib.ListN.{take, drop}
-use Rattle.seq.specs.List.{any, chosen, others, Sub}
+use Rattle.seq.specs.List.{any, chosen, others, All, Sub}
 use Rattle.seq.proofs.Sub.{sub-none, sub-drop, others-sub}
 use Rattle.kind.specs.Verdict.{Pick, upTo, everybody, those, gone, left}
 use Rattle.kind.specs.Kind.{itself}
+
+-- what holds of every thread holds of all that wait
+pub all-of : (P : ℕ → Type 0) → ((t : ℕ) → P t) → (q : List ℕ) → All P q
+all-of P f [] = tt
+all-of P f (t ∷ q) = (f t, all-of P f q)
 
 pub any-map : (f : ℕ → ℕ) (q : List ℕ) → any (map f q) ≡ any q
 any-map f [] = refl

@@ -20,8 +20,8 @@ use Rattle.wait_queue.specs.Post as queue
 use Rattle.kind.specs.Verdict.{upTo, keep, wake, Verdict, deny, allow}
 use Rattle.kind.specs.Kind.{plain}
 use Rattle.kind.specs.Object as object
-use Rattle.kind.specs.Object.{named, carried, on, Does, sane}
-use Rattle.kind.proofs.Memory.{Header, refuses, alike, is-sane, sane-sized}
+use Rattle.kind.specs.Object.{refused, named, carried, on, Does, sane}
+use Rattle.kind.proofs.Memory.{Header, refuses, alike, is-sane}
 use Rattle.kind.proofs.Answers.{Tells, silent, verdict, call-no, call-barred, call-is, call-denied, keeps, wakes, waits-now, unseen, seen, start-short, start-made}
 use Rattle.mutex.specs.Mutex.{nobody, Mutex, lock, tryLock, unlock, release, formed, maxCount, released, unlocked, transferred, free, taken, counting, passes, mutex-kind}
 use Rattle.mutex.specs.Post.{ownerIn, layout, tryLockOut, unlockOut, lockOut, releaseOut, getOut, isLocked, ownerId, apart, Starts, Audited, unlockDeed, LockDecided, UnlockDecided}
@@ -243,7 +243,7 @@ module _ (h e : List ℕ) where
       pub lock-waits : 0 < getD h 0 0 → (getD h 1 0 ≡ i → ⊥) → (r : ℤ) (m : ℕ) (e' : List ℕ) → queue.Does (pend i p st) (getD h 3 0) e r m e'
           → Does layout (lockOut i p st) h e r (set h 3 m) e'
       lock-waits k n r m e' d =
-          waits-now mutex-kind layout plain i p st lock h e tt waits r m e' (omega arith) (sane-sized mutex-kind layout h e s) fine
+          waits-now mutex-kind layout plain i p st lock h e tt waits r m e' (omega arith) words fine
           (rw (lt-ltb 0 (getD h 0 0) k, ne-eqb (getD h 1 0) i n)) d (fewer h words m)
 
       -- what is there, or its own, as without waiting
@@ -306,6 +306,29 @@ module _ (h e : List ℕ) where
               go zero x b = absurd (omega arith)
               go (suc n) x b = rw (last (allow (taken (ident (getD e n 0))) (wake (upTo 1) (λ t. ok)) transferred) (rw x)) refl
 
+      -- what release allows is an unlock
+      same-last : (q : List ℕ) → carried (object.thread i p st) (passes (map ident q)) (layout .num h) q ≡ carried (named i) (passes (map ident q)) (layout .num h) q
+      same-last [] = refl
+      same-last (x ∷ q) = refl
+
+      unlocks-too : (c k : ℕ) → callerCode p st ≡ pos c → on layout (releaseOut i p st) h e .turn .code ≡ pos k → on layout (unlockOut i) h e ≡ on layout (releaseOut i p st) h e
+      unlocks-too c k z y = go (ltb 0 (getD h 0 0)) (eqb (getD h 1 0) i) (ltb 1 (getD h 2 0)) refl refl refl
+        where
+          never : (r : ℕ) → on layout (releaseOut i p st) h e ≡ refused (negsuc r) (layout .num h) (waiting e (getD h 3 0)) → on layout (unlockOut i) h e ≡ on layout (releaseOut i p st) h e
+          never r x = let u : negsuc r ≡ pos k = rw x at y in absurd (let v : _≡_ {A = ℕ} 0 1 = cc in omega arith)
+
+          deed : (d : Verdict Mutex (Unit {0})) → verdict mutex-kind layout plain (object.thread i p st) release h e ≡ d
+              → on layout (releaseOut i p st) h e ≡ carried (object.thread i p st) d (layout .num h) (waiting e (getD h 3 0))
+          deed d x = call-is mutex-kind layout plain (object.thread i p st) release h e s c z d x
+
+          go : (a b l : Bool) → ltb 0 (getD h 0 0) ≡ a → eqb (getD h 1 0) i ≡ b → ltb 1 (getD h 2 0) ≡ l → on layout (unlockOut i) h e ≡ on layout (releaseOut i p st) h e
+          go false b l f o m = never 21 (deed (deny einval) (rw f))
+          go true false l f o m = never 0 (deed (deny eperm) (rw (f, o)))
+          go true true true f o m = never 44 (deed (deny edeadlk) (rw (f, o, m)))
+          go true true false f o m =
+              call-is mutex-kind layout plain (named i) unlock h e s 0 refl (passes (map ident (waiting e (getD h 3 0)))) (rw (f, o, m))
+              ∙ sym (deed (passes (map ident (waiting e (getD h 3 0)))) (rw (f, o, m)) ∙ same-last (waiting e (getD h 3 0)))
+
     -- the numbers
     pub got : (g : Mutex → List ℕ → ℤ) → g (layout .num h) (waiting e (getD h 3 0)) ≡ on layout (getOut g) h e .turn .code
     got g = seen mutex-kind layout g h e s
@@ -346,6 +369,18 @@ module _ (h e : List ℕ) where
         go : (c : Bool) → cond c false true ≡ not c
         go true = refl
         go false = refl
+
+-- a release that is allowed is an unlock
+pub release-unlocks : (h e : List ℕ) (i p st k : ℕ) → on layout (releaseOut i p st) h e .turn .code ≡ pos k → on layout (unlockOut i) h e ≡ on layout (releaseOut i p st) h e
+release-unlocks h e i p st k y = go (sane mutex-kind layout h e) (callerCode p st) refl refl
+  where
+    never : (r : ℕ) → r ≡ r → on layout (releaseOut i p st) h e .turn .code ≡ negsuc r → on layout (unlockOut i) h e ≡ on layout (releaseOut i p st) h e
+    never r q x = let u : negsuc r ≡ pos k = sym x ∙ y in absurd (let v : _≡_ {A = ℕ} 0 1 = cc in omega arith)
+
+    go : (b : Bool) (z : ℤ) → sane mutex-kind layout h e ≡ b → callerCode p st ≡ z → on layout (unlockOut i) h e ≡ on layout (releaseOut i p st) h e
+    go false z s c = never 21 refl (sym (release-no h e i p st s))
+    go true (negsuc r) s c = never r refl (sym (release-caller h e s i p st r c))
+    go true (pos n) s c = unlocks-too h e s i p st n k c y
 
 -- init
 module _ (h : List ℕ) where

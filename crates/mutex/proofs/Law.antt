@@ -6,12 +6,13 @@ use Prim.Native.Nat.{ℕ, suc, _-_, _<_}
 use native.Mathlib.Omega.{arith}
 use lib.Dec.{ltb, eqb}
 use borrow.Author.Tests.{lt-ltb, ltb-true, eq-eqb, eqb-true}
-use Rattle.seq.specs.List.{any, All}
+use Rattle.seq.specs.List.{any}
 use Rattle.seq.proofs.Order.{clash}
 use Rattle.thread.specs.Code.{ok, eperm, ebusy, edeadlk, eoverflow}
 use Rattle.wait_queue.specs.Turn.{waits}
 use Rattle.kind.specs.Verdict.{keep, park, Verdict, deny, allow}
 use Rattle.kind.specs.Kind.{Lawful, Rightly, Sound, Right}
+use Rattle.kind.proofs.Picks.{all-of}
 use Rattle.mutex.specs.Mutex.{Owner, nobody, thread, Mutex, Call, lock, tryLock, unlock, release, held, formed, maxCount, released, locks, passes, unlocks, decide, mutex-kind}
 
 abbrev pub mk : Owner → ℕ → Mutex
@@ -29,11 +30,6 @@ free-empty c w f = go (eqb c 0) w refl f
     go true false z h = (eqb-true c 0 z, refl)
     go false b z h = clash (sym h)
 
--- who waits, waits for an owner
-pub held-all : (o : Owner) (q : List ℕ) → held o ≡ true → All (λ t. held o ≡ true) q
-held-all o [] h = tt
-held-all o (x ∷ q) h = (h, held-all o q h)
-
 -- whether a lock is sound and right hangs on the verdict d on another's mutex
 module _ (v : ℕ → Unit {0}) (q : List ℕ) (w : ℕ) where
   locks-sound : (o : Owner) (c : ℕ) (d : Verdict Mutex (Unit {0})) → formed (mk o c) (any q) ≡ true → Sound mutex-kind q d → Sound mutex-kind q (locks (mk o c) w d)
@@ -47,7 +43,7 @@ module _ (v : ℕ → Unit {0}) (q : List ℕ) (w : ℕ) where
 
   locks-right : (k : Call) (o : Owner) (c : ℕ) (d : Verdict Mutex (Unit {0})) → formed (mk o c) (any q) ≡ true → Rightly mutex-kind (mk o c) v q → Right mutex-kind v q k d
       → Right mutex-kind v q k (locks (mk o c) w d)
-  locks-right k nobody c d f r s = held-all (thread w) q refl
+  locks-right k nobody c d f r s = all-of (λ t. held (thread w) ≡ true) (λ t. refl) q
   locks-right k (thread i) c d f r s = go (eqb i w) (ltb c maxCount)
     where
       go : (a b : Bool) → Right mutex-kind v q k (cond a (cond b (allow (mk (thread i) (suc c)) keep ok) (deny eoverflow)) d)
@@ -62,7 +58,7 @@ passes-sound (t ∷ q) = refl
 
 passes-right : (v : ℕ → Unit {0}) (q : List ℕ) (k : Call) → Right mutex-kind v q k (passes q)
 passes-right v [] k = tt
-passes-right v (t ∷ q) k = (held-all (thread t) q refl, (refl, tt))
+passes-right v (t ∷ q) k = (all-of (λ t. held (thread t) ≡ true) (λ t. refl) q, (refl, tt))
 
 module _ (v : ℕ → Unit {0}) (q : List ℕ) (w : ℕ) where
   unlocks-sound : (o : Owner) (c : ℕ) (d : Verdict Mutex (Unit {0})) → (1 < c → Sound mutex-kind q d) → Sound mutex-kind q (unlocks (mk o c) w q d)
@@ -94,7 +90,7 @@ sound o c v q w release f = unlocks-sound v q w o c (deny edeadlk) (λ h. tt)
 
 right : (o : Owner) (c : ℕ) (v : ℕ → Unit {0}) (q : List ℕ) (w : ℕ) (k : Call) → formed (mk o c) (any q) ≡ true → Rightly mutex-kind (mk o c) v q
     → Right mutex-kind v q k (decide (mk o c) v q w k)
-right nobody c v q w lock f r = held-all (thread w) q refl
+right nobody c v q w lock f r = all-of (λ t. held (thread w) ≡ true) (λ t. refl) q
 right (thread i) c v q w lock f r = locks-right v q w lock (thread i) c (allow (mk (thread i) c) (park tt) waits) f r (refl, r)
 right o c v q w tryLock f r = locks-right v q w tryLock o c (deny ebusy) f r tt
 right o c v q w unlock f r = unlocks-right v q w unlock o c (allow (mk o (c - 1)) keep released) r

@@ -213,7 +213,7 @@ module _ (h e : List ℕ) where
         → Does layout (takeOut i p st) h e r (set h 2 m) e'
     took-turn i p st y k r m e' d =
         let c : getD h 0 0 ≤ 0 = omega arith in
-        waits-now sem-kind layout plain i p st take h e tt (pos 1) r m e' (omega arith) z
+        waits-now sem-kind layout plain i p st take h e tt (pos 1) r m e' (omega arith) its-words
         (fine-is (getD h 0 0) (getD h 1 0) (ltb 0 (getD h 2 0)) k (omega arith) (λ q. y)) (rw (le-ltb 0 (getD h 0 0) c)) d (num-kept h m)
 
 -- init

@@ -7,9 +7,10 @@ use native.Mathlib.Omega.{arith}
 use lib.Dec.{ltb, leb, eqb}
 use borrow.Author.Tests.{lt-ltb, le-ltb, ltb-true, ltb-false, le-leb, lt-leb, leb-true, eq-eqb, ne-eqb, eqb-true}
 use Rattle.seq.specs.List.{any, All}
-use Rattle.seq.proofs.Order.{clash, cond-same}
+use Rattle.seq.proofs.Order.{clash, cond-self, cond-same}
 use Rattle.thread.specs.Code.{eagain}
 use Rattle.kind.specs.Kind.{Lawful, Rightly, Sound, Right}
+use Rattle.kind.proofs.Picks.{all-of}
 use Rattle.sem.specs.Sem.{Sem, Call, give, take, tryTake, reset, formed, decide, sem-kind}
 
 abbrev pub mk : ℕ → ℕ → Sem
@@ -27,11 +28,7 @@ module _ (c l : ℕ) where
   idle h k = rw (lt-ltb 0 l h, le-leb c l k)
 
   pub vacant : 0 < l → formed (mk c l) false ≡ leb c l
-  vacant h = rw (lt-ltb 0 l h) (go (leb c l))
-    where
-      go : (b : Bool) → cond b true false ≡ b
-      go true = refl
-      go false = refl
+  vacant h = rw (lt-ltb 0 l h) (cond-self (leb c l))
 
   pub crowded : 0 < l → formed (mk c l) true ≡ eqb c 0
   crowded h = rw (lt-ltb 0 l h) (go (eqb c 0) refl)
@@ -107,11 +104,6 @@ sound c l v q w tryTake f = go (ltb 0 c) refl
     go false z = rw z tt
 sound c l v q w reset f = zeroed c l (any q) false f
 
--- who waits, waits with count 0
-all-zero : (c : ℕ) (q : List ℕ) → c ≡ 0 → All (λ t. c ≡ 0) q
-all-zero c [] h = tt
-all-zero c (x ∷ q) h = (h, all-zero c q h)
-
 right : (c l : ℕ) (v : ℕ → Unit {0}) (q : List ℕ) (w : ℕ) (k : Call) → formed (mk c l) (any q) ≡ true → Rightly sem-kind (mk c l) v q
     → Right sem-kind v q k (decide (mk c l) v q w k)
 right c l v [] w give f r = go (ltb c l) refl
@@ -132,11 +124,7 @@ right c l v q w tryTake f r = go (ltb 0 c) q refl r
     go true [] z a = rw z tt
     go true (x ∷ m) z a = absurd (omega (arith, ltb-true 0 c z, a .0))
     go false m z a = rw z tt
-right c l v q w reset f r = (tt, paid q)
-  where
-    paid : (m : List ℕ) → All (λ t. eagain ≡ eagain) m
-    paid [] = tt
-    paid (x ∷ m) = (refl, paid m)
+right c l v q w reset f r = (tt, all-of (λ t. eagain ≡ eagain) (λ t. refl) q)
 
 pub sem-lawful : Lawful sem-kind
 sem-lawful =

@@ -19,7 +19,7 @@ use Rattle.wait_queue.specs.Queue.{maxWaiters, entry, prio, ident, woken, waiti
 use Rattle.wait_queue.specs.Turn.{waits}
 use Rattle.wait_queue.proofs.Answers.{ident-entry}
 use Rattle.kind.specs.Kind.{plain}
-use Rattle.kind.specs.Object.{Out, refused, anyone, thread, call, on, Does, sane}
+use Rattle.kind.specs.Object.{Out, anyone, call, on, Does, sane}
 use Rattle.kind.specs.History.{Event, calls, asks, happens, Good, Lasting}
 use Rattle.kind.proofs.Memory.{Housed, is-on, malformed, shown, barred}
 use Rattle.kind.proofs.Histories.{always, step}

@@ -13,6 +13,10 @@ use Rattle.seq.specs.List.{has, others, insert, All, Sorted}
 pub clash : {P : Type 0} → true ≡ false → P
 clash z = absurd (let y : _≡_ {A = ℕ} 0 1 = cc in omega arith)
 
+pub cond-self : (b : Bool) → cond b true false ≡ b
+cond-self true = refl
+cond-self false = refl
+
 pub cond-same : {A : Type 0} (b : Bool) (x : A) → cond b x x ≡ x
 cond-same true x = refl
 cond-same false x = refl

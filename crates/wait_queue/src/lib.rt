@@ -12,6 +12,7 @@ ghost use mathlib.Core.Path.{_≡_};
 ghost use mathlib.Core.Bool.{true, false, cond};
 ghost use mathlib.Core.List.{map};
 ghost use Prim.Native.Nat.{_+_, _*_, _%_, _≤_, _<_};
+ghost use lib.Dec.{ltb};
 ghost use lib.IntN.{pos};
 ghost use lib.ListN.{length, getD, drop};
 ghost use Rattle.seq.specs.Word.{word};
@@ -30,11 +31,18 @@ fn limit() -> usize
     MAX_WAITERS
 }
 
+// Whether n are more than can wait.
+pub fn over(n: u32) -> bool
+    ensures { λ r. ⌜ r ≡ ltb maxWaiters n ⌝ }
+{
+    limit() < seq::wide(n)
+}
+
 // Whether e is the memory of a queue of n.
 pub fn fits(n: u32, e: &[u64]) -> bool
     ensures { λ r. ⌜ r ≡ roomy n (now (e .entry)) ⌝ }
 {
-    if limit() < seq::wide(n) {
+    if over(n) {
         return false;
     }
     limit() <= e.len()

@@ -1,0 +1,3 @@
+pub mod Condvar
+pub mod Post
+pub mod History

@@ -1,0 +1,3 @@
+pub mod Futex
+pub mod Post
+pub mod History
