@@ -1,3 +1,4 @@
 pub mod Mutex
 pub mod Post
 pub mod History
+pub mod Upstream

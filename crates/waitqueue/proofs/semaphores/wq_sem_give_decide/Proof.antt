@@ -1,14 +1,12 @@
--- The answer is that of the semaphore's own function. Assumes nothing.
+-- The answer is that of the object's own function. Assumes nothing.
 use Rattle.seq.proofs.Integers.{answered}
 use borrow.Author.Needs.{needs}
 use Rattle.waitqueue.proofs.semaphores.wq_sem_give_decide.Statement.{statement}
 use Rattle.waitqueue.proofs.semaphores.wq_sem_give_decide.Tie as tie
 
--- src/semaphores.rt:16:5
 give-decide-requires : tie.Need-give-decide-requires
 give-decide-requires c κs = search needs
 
--- src/semaphores.rt:12:1
 returns : tie.Need-returns
 returns c = rw (answered {z = c .give-decide .result} (c .give-decide .ok)) (c .give-decide .ensures)
 

@@ -1,14 +1,12 @@
--- The answer is that of the semaphore's own function. Assumes nothing.
+-- The answer is that of the object's own function. Assumes nothing.
 use Rattle.seq.proofs.Integers.{answered}
 use borrow.Author.Needs.{needs}
 use Rattle.waitqueue.proofs.semaphores.wq_sem_take_decide.Statement.{statement}
 use Rattle.waitqueue.proofs.semaphores.wq_sem_take_decide.Tie as tie
 
--- src/semaphores.rt:23:5
 take-decide-requires : tie.Need-take-decide-requires
 take-decide-requires c κs = search needs
 
--- src/semaphores.rt:19:1
 returns : tie.Need-returns
 returns c = rw (answered {z = c .take-decide .result} (c .take-decide .ok)) (c .take-decide .ensures)
 

@@ -1,0 +1,538 @@
+-- Our contracts imply those of Gale's mutex.rs. Assumes nothing.
+use mathlib.Core.Path.{_≡_, refl, sym, ap, _∙_}
+use mathlib.Core.Bool.{Bool, true, false}
+use mathlib.Core.Logic.{_⊎_, inl, inr}
+use mathlib.Core.List.{List, [], _∷_, _++_}
+use Prim.Native.Nat.{ℕ, zero, suc, _+_, _-_, _≤_, _<_}
+use native.Mathlib.Numerals.{add-one}
+use native.Mathlib.Omega.{arith}
+use lib.Dec.{ltb, eqb}
+use lib.IntN.{ℤ, pos}
+use lib.ListN.{length, getD}
+use borrow.Author.Tests.{lt-ltb, le-ltb, ltb-true, ltb-false, eq-eqb, ne-eqb, eqb-true, eqb-false, le-leb}
+use Rattle.seq.specs.List.{any}
+use Rattle.seq.proofs.Order.{clash, length-insert}
+use Rattle.thread.specs.Code.{ok, eperm, ebusy, einval, eoverflow}
+use Rattle.thread.specs.Priority.{maxPriority}
+use Rattle.thread.specs.Thread.{running}
+use Rattle.wait_queue.specs.Queue.{maxWaiters, entry, prio, ident, woken, waiting, holds, joined, Well}
+use Rattle.wait_queue.specs.Turn.{waits}
+use Rattle.wait_queue.specs.Post.{Told}
+use Rattle.wait_queue.proofs.Answers.{ident-entry}
+use Rattle.wait_queue.proofs.Well.{well-empty}
+use Rattle.kind.specs.Kind.{plain}
+use Rattle.kind.specs.Object.{Out, refused, on, Does, sane}
+use Rattle.kind.specs.History.{Object, Event, calls, asks, happens, next, run, Lasting}
+use Rattle.kind.proofs.Memory.{Housed, is-on, malformed, alike, shown, unchanged, barred}
+use Rattle.kind.proofs.Histories.{always, step}
+use Rattle.mutex.specs.Mutex.{Owner, nobody, thread, Mutex, Call, lock, tryLock, unlock, held, formed, maxCount, released, unlocked, transferred, free, taken, mutex-kind}
+use Rattle.mutex.specs.Post.{layout, tryLockOut, unlockOut, lockOut, getOut, isLocked, ownerId, Starts, LockDecided, UnlockDecided}
+use Rattle.mutex.specs.History.{fresh, after}
+use Rattle.mutex.specs.Upstream.{Inv, isOk, Another, Init, TryLock, LockBlocking, Unlock, FirstOwns, IsLocked, LockCountGet, NumWaiters, OwnerGet, LockDecide, UnlockDecide, OwnerCount, Roundtrip, times, Depth}
+use Rattle.mutex.proofs.Law.{mk, free-fine, free-empty, mutex-lawful}
+use Rattle.mutex.proofs.Answers.{lock-null-bad, lock-null, lock-empty, lock-over, lock-more, lock-busy, lock-pend, unlock-null, unlock-empty, unlock-not, unlock-more, unlock-one}
+
+-- decide functions: of numbers as they should be, an owner with a count and no owner with none
+other-one : _≡_ {A = ℕ} 1 0 → ⊥
+other-one z = absurd (omega arith)
+
+-- they have one answer
+one-lock : (c : ℕ) (null current noWait : Bool) (r s : ℤ) → LockDecided c null current noWait r → LockDecided c null current noWait s → r ≡ s
+one-lock c null current noWait r s d t = d 0 1 [] other-one refl ∙ sym (t 0 1 [] other-one refl)
+
+one-unlock : (c : ℕ) (null current : Bool) (r s : ℤ) → UnlockDecided c null current r → UnlockDecided c null current s → r ≡ s
+one-unlock c null current r s d t = d 0 1 [] other-one ∙ sym (t 0 1 [] other-one)
+
+pub lock-decide : (c : ℕ) (null current noWait : Bool) (r : ℤ) → (null ≡ true → c ≡ 0) → (null ≡ false → 0 < c)
+    → LockDecided c null current noWait r → LockDecide c null current noWait r
+lock-decide c true u w r a b d =
+    record {
+      acquires = λ z. one-lock c true u w r _ d (lock-null c u w (a refl));
+      enters = λ z. clash z;
+      overflows = λ z. clash z;
+      blocks = λ z. clash z;
+      pends = λ z. clash z;
+    }
+lock-decide c false true w r a b d =
+    record {
+      acquires = λ z. clash (sym z);
+      enters = λ x y l. one-lock c false true w r _ d (lock-more c w (b refl) l);
+      overflows = λ x y l. one-lock c false true w r _ d (lock-over c w l);
+      blocks = λ x y. clash y;
+      pends = λ x y. clash y;
+    }
+lock-decide c false false true r a b d =
+    record {
+      acquires = λ z. clash (sym z);
+      enters = λ x y. clash (sym y);
+      overflows = λ x y. clash (sym y);
+      blocks = λ x y z. one-lock c false false true r _ d (lock-busy c (b refl));
+      pends = λ x y z. clash z;
+    }
+lock-decide c false false false r a b d =
+    record {
+      acquires = λ z. clash (sym z);
+      enters = λ x y. clash (sym y);
+      overflows = λ x y. clash (sym y);
+      blocks = λ x y z. clash (sym z);
+      pends = λ x y z. one-lock c false false false r _ d (lock-pend c (b refl));
+    }
+
+pub lock-decide-refuses : (c : ℕ) (null current noWait : Bool) (r : ℤ) → ((null ≡ true) × (0 < c)) ⊎ ((null ≡ false) × (c ≡ 0))
+    → LockDecided c null current noWait r → r ≡ einval
+lock-decide-refuses c true u w r (inl z) d = one-lock c true u w r _ d (lock-null-bad c u w (z .1))
+lock-decide-refuses c true u w r (inr z) d = clash (z .0)
+lock-decide-refuses c false u w r (inl z) d = clash (sym (z .0))
+lock-decide-refuses c false u w r (inr z) d = one-lock c false u w r _ d (lock-empty c u w (z .1))
+
+pub unlock-decide : (c : ℕ) (null current : Bool) (r : ℤ) → (null ≡ false → 0 < c) → UnlockDecided c null current r → UnlockDecide c null current r
+unlock-decide c true u r b d =
+    record {
+      free = λ z. one-unlock c true u r _ d (unlock-null c u);
+      other = λ z. clash z;
+      nested = λ z. clash z;
+      last = λ z. clash z;
+    }
+unlock-decide c false true r b d =
+    record {
+      free = λ z. clash (sym z);
+      other = λ x y. clash y;
+      nested = λ x y l. one-unlock c false true r _ d (unlock-more c l);
+      last = λ x y l. one-unlock c false true r _ d (unlock-one c (b refl) l);
+    }
+unlock-decide c false false r b d =
+    record {
+      free = λ z. clash (sym z);
+      other = λ x y. one-unlock c false false r _ d (unlock-not c (b refl));
+      nested = λ x y. clash (sym y);
+      last = λ x y. clash (sym y);
+    }
+
+pub unlock-decide-refuses : (c : ℕ) (current : Bool) (r : ℤ) → c ≡ 0 → UnlockDecided c false current r → r ≡ einval
+unlock-decide-refuses c u r z d = one-unlock c false u r _ d (unlock-empty c u z)
+
+-- the invariant is our own: numbers as they should be, and a queue as it should be
+filled : (q : List ℕ) → any q ≡ true → 0 < length q
+filled [] h = clash (sym h)
+filled (x ∷ q) h = omega arith
+
+vacant : (q : List ℕ) → any q ≡ false → length q ≡ 0
+vacant [] h = refl
+vacant (x ∷ q) h = clash h
+
+pub inv-formed : (o : Owner) (c : ℕ) (q : List ℕ) → Inv (mk o c) q → formed (mk o c) (any q) ≡ true
+inv-formed nobody c q v = free-fine c (any q) (none (ltb 0 c) refl) (idle (any q) refl)
+  where
+    none : (b : Bool) → ltb 0 c ≡ b → c ≡ 0
+    none true z = clash (sym (v .owned (ltb-true 0 c z)))
+    none false z = let y : c ≤ 0 = ltb-false 0 c z in omega arith
+
+    idle : (b : Bool) → any q ≡ b → b ≡ false
+    idle true z = clash (sym (v .awaited (filled q z)))
+    idle false z = refl
+inv-formed (thread j) c q v = lt-ltb 0 c (v .counted refl)
+
+pub formed-inv : (o : Owner) (c : ℕ) (q : List ℕ) → formed (mk o c) (any q) ≡ true → Well q → Inv (mk o c) q
+formed-inv nobody c q f w =
+    let z : (c ≡ 0) × (any q ≡ false) = free-empty c (any q) f in
+    record {
+      owned = λ k. absurd (omega (arith, z .0));
+      counted = λ k. clash (sym k);
+      awaited = λ k. absurd (omega (arith, vacant q (z .1)));
+      queue = w;
+    }
+formed-inv (thread j) c q f w = record { owned = λ k. refl; counted = λ k. ltb-true 0 c f; awaited = λ k. refl; queue = w }
+
+-- init
+pub mutex-init : (h : List ℕ) (r : ℤ) (h' e : List ℕ) → 4 ≤ length h → Starts h r h' → (r ≡ ok) × Init (layout .num h') (waiting e (getD h' 3 0))
+mutex-init h r h' e k s =
+    let c : r ≡ ok = s .code ∙ rw (le-leb 4 (length h) k) in
+    let m = s .made c in
+    (c, rw (m .0, m .1 e) (record { inv = formed-inv nobody 0 [] refl well-empty; owner = refl; count = refl; empty = refl }))
+
+-- what one call does, case by case
+abbrev gained : ℤ → Mutex → List ℕ → Out Mutex
+gained r m q = record { num = m; turn = record { code = r; queue = q; woken = [] } }
+
+module _ (i c : ℕ) (q : List ℕ) where
+  first-lock : formed (mk nobody c) (any q) ≡ true → tryLockOut i (mk nobody c) q ≡ gained ok (taken i) q
+  first-lock f = rw f
+
+  next-lock : formed (mk (thread i) c) (any q) ≡ true → c < maxCount → tryLockOut i (mk (thread i) c) q ≡ gained ok (mk (thread i) (suc c)) q
+  next-lock f k = rw (f, eq-eqb i i refl, lt-ltb c maxCount k)
+
+  -- the owner's locks are at their limit
+  no-lock : formed (mk (thread i) c) (any q) ≡ true → c ≡ maxCount → tryLockOut i (mk (thread i) c) q ≡ refused eoverflow (mk (thread i) c) q
+  no-lock f k = let z : maxCount ≤ c = omega arith in rw (f, eq-eqb i i refl, le-ltb c maxCount z)
+
+  other-lock : (j : ℕ) → formed (mk (thread j) c) (any q) ≡ true → (j ≡ i → ⊥) → tryLockOut i (mk (thread j) c) q ≡ refused ebusy (mk (thread j) c) q
+  other-lock j f n = rw (f, ne-eqb j i n)
+
+  not-locked : formed (mk nobody c) (any q) ≡ true → unlockOut i (mk nobody c) q ≡ refused einval (mk nobody c) q
+  not-locked f = rw f
+
+  not-owner : (j : ℕ) → formed (mk (thread j) c) (any q) ≡ true → (j ≡ i → ⊥) → unlockOut i (mk (thread j) c) q ≡ refused eperm (mk (thread j) c) q
+  not-owner j f n = rw (f, ne-eqb j i n)
+
+  one-less : formed (mk (thread i) c) (any q) ≡ true → 1 < c → unlockOut i (mk (thread i) c) q ≡ gained released (mk (thread i) (c - 1)) q
+  one-less f k = rw (f, eq-eqb i i refl, lt-ltb 1 c k)
+
+now-free : (i c : ℕ) → c ≡ 1 → unlockOut i (mk (thread i) c) [] ≡ gained unlocked free []
+now-free i c k = rw (k, eq-eqb i i refl)
+
+passed-on : (i c x : ℕ) (q : List ℕ) → c ≡ 1
+    → unlockOut i (mk (thread i) c) (x ∷ q) ≡ record { num = taken (ident x); turn = record { code = transferred; queue = q; woken = woken ok x ∷ [] } }
+passed-on i c x q k = rw (k, eq-eqb i i refl)
+
+-- who owns it
+abbrev idOf : Owner → ℕ
+idOf nobody = 0
+idOf (thread i) = i
+
+no-owner : {P : Type 0} (i : ℕ) → nobody ≡ thread i → P
+no-owner i z = clash (sym (ap held z))
+
+an-owner : {P : Type 0} (i : ℕ) → thread i ≡ nobody → P
+an-owner i z = clash (ap held z)
+
+nobody-else : {P : Type 0} (i : ℕ) → Another i nobody → P
+nobody-else i a = no-owner (a .who) (a .is)
+
+not-itself : {P : Type 0} (i : ℕ) → Another i (thread i) → P
+not-itself i a = absurd (a .other (sym (ap idOf (a .is))))
+
+-- after an event, too
+inv-after : (o : Owner) (c : ℕ) (q : List ℕ) → Inv (mk o c) q → (x : Event Call)
+    → Inv (happens mutex-kind plain (record { num = mk o c; queue = q }) x .num) (happens mutex-kind plain (record { num = mk o c; queue = q }) x .turn .queue)
+inv-after o c q v x =
+    let t = step mutex-kind mutex-lawful plain (record { num = mk o c; queue = q }) x (record { numbers = inv-formed o c q v; queue = v .queue }) in
+    formed-inv _ _ _ (t .numbers) (t .queue)
+
+abbrev Tries : ℕ → Owner → ℕ → List ℕ → Type 0
+Tries i o c q = TryLock i (mk o c) q (tryLockOut i (mk o c) q .turn .code) (tryLockOut i (mk o c) q .num) (tryLockOut i (mk o c) q .turn .queue)
+
+tries-free : (i c : ℕ) (q : List ℕ) → Inv (mk nobody c) q → Tries i nobody c q
+tries-free i c q v =
+    let t = first-lock i c q (inv-formed nobody c q v) in
+    record {
+      inv = inv-after nobody c q v (calls i tryLock);
+      waiters = rw t;
+      free-acquired = λ z. rw t;
+      free-owner = λ z. rw t;
+      free-count = λ z. rw t;
+      own-acquired = no-owner i;
+      own-owner = no-owner i;
+      own-count = no-owner i;
+      other-blocked = nobody-else i;
+      other-owner = nobody-else i;
+      other-count = nobody-else i;
+    }
+
+tries-own : (i c : ℕ) (q : List ℕ) → Inv (mk (thread i) c) q → c < maxCount → Tries i (thread i) c q
+tries-own i c q v k =
+    let t = next-lock i c q (inv-formed (thread i) c q v) k in
+    record {
+      inv = inv-after (thread i) c q v (calls i tryLock);
+      waiters = rw t;
+      free-acquired = an-owner i;
+      free-owner = an-owner i;
+      free-count = an-owner i;
+      own-acquired = λ z. rw t;
+      own-owner = λ z. rw t;
+      own-count = λ z. rw t (sym (add-one c));
+      other-blocked = not-itself i;
+      other-owner = not-itself i;
+      other-count = not-itself i;
+    }
+
+tries-other : (i j c : ℕ) (q : List ℕ) → Inv (mk (thread j) c) q → (j ≡ i → ⊥) → Tries i (thread j) c q
+tries-other i j c q v n =
+    let t = other-lock i c q j (inv-formed (thread j) c q v) n in
+    record {
+      inv = inv-after (thread j) c q v (calls i tryLock);
+      waiters = rw t;
+      free-acquired = an-owner j;
+      free-owner = an-owner j;
+      free-count = an-owner j;
+      own-acquired = λ z. absurd (n (ap idOf z));
+      own-owner = λ z. absurd (n (ap idOf z));
+      own-count = λ z. absurd (n (ap idOf z));
+      other-blocked = λ z. rw t;
+      other-owner = λ z. rw t;
+      other-count = λ z. rw t;
+    }
+
+-- upstream's premise of the count is needed of the owner alone
+tries : (i : ℕ) (o : Owner) (c : ℕ) (q : List ℕ) → Inv (mk o c) q → (o ≡ thread i → c < maxCount) → Tries i o c q
+tries i nobody c q v l = tries-free i c q v
+tries i (thread j) c q v l = go (eqb j i) refl
+  where
+    go : (b : Bool) → eqb j i ≡ b → Tries i (thread j) c q
+    go true y = let z : j ≡ i = eqb-true j i y in rw z (tries-own i c q (rw z at v) (l (ap thread z)))
+    go false y = tries-other i j c q v (eqb-false j i y)
+
+-- unlock
+abbrev Unlocks : ℕ → Owner → ℕ → List ℕ → Type 0
+Unlocks i o c q = Unlock i (mk o c) q (unlockOut i (mk o c) q .turn .code) (unlockOut i (mk o c) q .num) (unlockOut i (mk o c) q .turn .queue)
+
+unlocks-free : (i c : ℕ) (q : List ℕ) → Inv (mk nobody c) q → Unlocks i nobody c q
+unlocks-free i c q v =
+    let t = not-locked i c q (inv-formed nobody c q v) in
+    record {
+      inv = inv-after nobody c q v (calls i unlock);
+      free-code = λ z. rw t;
+      free-owner = λ z. rw t;
+      free-count = λ z. rw t;
+      other-code = nobody-else i;
+      other-owner = nobody-else i;
+      other-count = nobody-else i;
+      nested-ok = no-owner i;
+      nested-count = no-owner i;
+      nested-owner = no-owner i;
+      nested-waiters = no-owner i;
+      passed-ok = no-owner i;
+      passed-owner = no-owner i;
+      passed-count = no-owner i;
+      passed-waiters = no-owner i;
+      last-ok = no-owner i;
+      last-owner = no-owner i;
+      last-count = no-owner i;
+      last-waiters = no-owner i;
+    }
+
+unlocks-other : (i j c : ℕ) (q : List ℕ) → Inv (mk (thread j) c) q → (j ≡ i → ⊥) → Unlocks i (thread j) c q
+unlocks-other i j c q v n =
+    let t = not-owner i c q j (inv-formed (thread j) c q v) n in
+    record {
+      inv = inv-after (thread j) c q v (calls i unlock);
+      free-code = an-owner j;
+      free-owner = an-owner j;
+      free-count = an-owner j;
+      other-code = λ z. rw t;
+      other-owner = λ z. rw t;
+      other-count = λ z. rw t;
+      nested-ok = λ z. absurd (n (ap idOf z));
+      nested-count = λ z. absurd (n (ap idOf z));
+      nested-owner = λ z. absurd (n (ap idOf z));
+      nested-waiters = λ z. absurd (n (ap idOf z));
+      passed-ok = λ z. absurd (n (ap idOf z));
+      passed-owner = λ z. absurd (n (ap idOf z));
+      passed-count = λ z. absurd (n (ap idOf z));
+      passed-waiters = λ z. absurd (n (ap idOf z));
+      last-ok = λ z. absurd (n (ap idOf z));
+      last-owner = λ z. absurd (n (ap idOf z));
+      last-count = λ z. absurd (n (ap idOf z));
+      last-waiters = λ z. absurd (n (ap idOf z));
+    }
+
+-- the owner's, by its locks and by who waits
+unlocks-own : (i c : ℕ) (q : List ℕ) → Inv (mk (thread i) c) q → Unlocks i (thread i) c q
+unlocks-own i c q v =
+    record {
+      inv = inv-after (thread i) c q v (calls i unlock);
+      free-code = an-owner i;
+      free-owner = an-owner i;
+      free-count = an-owner i;
+      other-code = not-itself i;
+      other-owner = not-itself i;
+      other-count = not-itself i;
+      nested-ok = λ z k. rw (one-less i c q f k);
+      nested-count = λ z k. rw (one-less i c q f k);
+      nested-owner = λ z k. rw (one-less i c q f k);
+      nested-waiters = λ z k. rw (one-less i c q f k);
+      passed-ok = λ z k l. passed (λ m o. isOk (o .turn .code) ≡ true) k l (λ x m. refl);
+      passed-owner = λ z k l. passed (λ m o. held (o .num .owner) ≡ true) k l (λ x m. refl);
+      passed-count = λ z k l. passed (λ m o. o .num .count ≡ 1) k l (λ x m. refl);
+      passed-waiters = λ z k l. passed (λ m o. length (o .turn .queue) ≡ length m - 1) k l (λ x m. omega arith);
+      last-ok = λ z k l. last (λ o. isOk (o .turn .code) ≡ true) k l refl;
+      last-owner = λ z k l. last (λ o. o .num .owner ≡ nobody) k l refl;
+      last-count = λ z k l. last (λ o. o .num .count ≡ 0) k l refl;
+      last-waiters = λ z k l. last (λ o. length (o .turn .queue) ≡ 0) k l refl;
+    }
+  where
+    f : formed (mk (thread i) c) (any q) ≡ true
+    f = inv-formed (thread i) c q v
+
+    -- who waits first gets it
+    passed : (P : List ℕ → Out Mutex → Type 0) → c ≡ 1 → 0 < length q
+        → ((x : ℕ) (m : List ℕ) → P (x ∷ m) (record { num = taken (ident x); turn = record { code = transferred; queue = m; woken = woken ok x ∷ [] } }))
+        → P q (unlockOut i (mk (thread i) c) q)
+    passed P k l p = go q l
+      where
+        go : (m : List ℕ) → 0 < length m → P m (unlockOut i (mk (thread i) c) m)
+        go [] h = absurd (omega arith)
+        go (x ∷ m) h = rw (passed-on i c x m k) (p x m)
+
+    last : (P : Out Mutex → Type 0) → c ≡ 1 → length q ≡ 0 → P (gained unlocked free []) → P (unlockOut i (mk (thread i) c) q)
+    last P k l p = go q l
+      where
+        go : (m : List ℕ) → length m ≡ 0 → P (unlockOut i (mk (thread i) c) m)
+        go [] h = rw (now-free i c k) p
+        go (x ∷ m) h = absurd (omega arith)
+
+unlocks : (i : ℕ) (o : Owner) (c : ℕ) (q : List ℕ) → Inv (mk o c) q → Unlocks i o c q
+unlocks i nobody c q v = unlocks-free i c q v
+unlocks i (thread j) c q v = go (eqb j i) refl
+  where
+    go : (b : Bool) → eqb j i ≡ b → Unlocks i (thread j) c q
+    go true y = let z : j ≡ i = eqb-true j i y in rw z (unlocks-own i c q (rw z at v))
+    go false y = unlocks-other i j c q v (eqb-false j i y)
+
+-- lock_blocking of another's, with a place to wait
+module _ (i p j c : ℕ) (q : List ℕ) (small : i < 4294967296) (valid : p < maxPriority) (v : Inv (mk (thread j) c) q) (n : j ≡ i → ⊥) (room : length q < maxWaiters) (absent : holds i q ≡ false) where
+  -- the thread joins
+  pub lock-joins : lockOut i p running (mk (thread j) c) q ≡ record { num = mk (thread j) c; turn = record { code = waits; queue = joined (entry p i) q; woken = [] } }
+  lock-joins = rw (inv-formed (thread j) c q v, lt-ltb p maxPriority valid, ne-eqb j i n, ident-entry p i small, absent, lt-ltb (length q) maxWaiters room)
+
+  blocks : LockBlocking (mk (thread j) c) q (lockOut i p running (mk (thread j) c) q .turn .code) (lockOut i p running (mk (thread j) c) q .num) (lockOut i p running (mk (thread j) c) q .turn .queue)
+  blocks =
+      let t = lock-joins in
+      record {
+        inv = inv-after (thread j) c q v (asks i p running small lock);
+        owner = ap (λ (o : Out Mutex). o .num .owner) t;
+        count = ap (λ (o : Out Mutex). o .num .count) t;
+        joined = λ k. ap (λ (o : Out Mutex). length (o .turn .queue)) t ∙ length-insert prio (entry p i) q ∙ sym (add-one (length q));
+        stayed = λ k. absurd (k (ap (λ (o : Out Mutex). o .turn .code) t));
+      }
+
+-- what is there, or its own, the caller gets as without waiting
+lock-same : (i p : ℕ) (o : Owner) (c : ℕ) (q : List ℕ) → p < maxPriority → (o ≡ nobody) ⊎ (o ≡ thread i) → lockOut i p running (mk o c) q ≡ tryLockOut i (mk o c) q
+lock-same i p o c q k (inl z) = rw (z, lt-ltb p maxPriority k)
+lock-same i p o c q k (inr z) = go (ltb c maxCount) refl
+  where
+    go : (b : Bool) → ltb c maxCount ≡ b → lockOut i p running (mk o c) q ≡ tryLockOut i (mk o c) q
+    go true y = rw (z, lt-ltb p maxPriority k, eq-eqb i i refl, y)
+    go false y = rw (z, lt-ltb p maxPriority k, eq-eqb i i refl, y)
+
+-- numbers
+locked : (o : Owner) (c : ℕ) (q : List ℕ) → Inv (mk o c) q → IsLocked (mk o c) (isLocked (mk o c))
+locked nobody c q v = record { owner = inr (refl, λ k. clash (sym k)); count = inr (refl, λ k. clash (sym (v .owned k))) }
+locked (thread i) c q v = record { owner = inl (refl, refl); count = inl (refl, v .counted refl) }
+
+-- the functions on memory
+module _ (h e : List ℕ) (r : ℤ) (h' e' : List ℕ) (m : Housed layout h e) (v : Inv (layout .num h) (waiting e (getD h 3 0))) where
+  abbrev own : Owner
+  own = layout .num h .owner
+
+  pub mutex-try-lock : (i : ℕ) → (own ≡ thread i → getD h 2 0 < maxCount) → Does layout (tryLockOut i) h e r h' e'
+      → TryLock i (layout .num h) (waiting e (getD h 3 0)) r (layout .num h') (waiting e' (getD h' 3 0))
+  mutex-try-lock i l d =
+      shown layout (tryLockOut i) (TryLock i (layout .num h) (waiting e (getD h 3 0))) h e r h' e' d m (tries i own (getD h 2 0) (waiting e (getD h 3 0)) v l)
+
+  pub mutex-lock-blocking : (i p : ℕ) → i < 4294967296 → p < maxPriority → Another i own → length (waiting e (getD h 3 0)) < maxWaiters → holds i (waiting e (getD h 3 0)) ≡ false
+      → Does layout (lockOut i p running) h e r h' e' → LockBlocking (layout .num h) (waiting e (getD h 3 0)) r (layout .num h') (waiting e' (getD h' 3 0))
+  mutex-lock-blocking i p small valid a room absent d =
+      shown layout (lockOut i p running) (LockBlocking (layout .num h) (waiting e (getD h 3 0))) h e r h' e' d m
+      (rw (a .is) (blocks i p (a .who) (getD h 2 0) (waiting e (getD h 3 0)) small valid (rw (a .is) at v) (a .other) room absent))
+
+  -- upstream demands another's; what is free or its own, the thread gets as by try_lock
+  pub mutex-lock-takes : (i p : ℕ) → p < maxPriority → (own ≡ nobody) ⊎ (own ≡ thread i) → Does layout (lockOut i p running) h e r h' e' → Does layout (tryLockOut i) h e r h' e'
+  mutex-lock-takes i p k o d =
+      alike layout (lockOut i p running) (tryLockOut i) h e r h' e'
+      (is-on layout (lockOut i p running) h e m ∙ lock-same i p own (getD h 2 0) (waiting e (getD h 3 0)) k o ∙ sym (is-on layout (tryLockOut i) h e m)) d
+
+  pub mutex-unlock : (i : ℕ) → Does layout (unlockOut i) h e r h' e' → Unlock i (layout .num h) (waiting e (getD h 3 0)) r (layout .num h') (waiting e' (getD h' 3 0))
+  mutex-unlock i d =
+      shown layout (unlockOut i) (Unlock i (layout .num h) (waiting e (getD h 3 0))) h e r h' e' d m (unlocks i own (getD h 2 0) (waiting e (getD h 3 0)) v)
+
+  -- who becomes the owner
+  pub first-owns : (i x : ℕ) (q : List ℕ) (w w' : ℕ) → own ≡ thread i → getD h 2 0 ≡ 1 → waiting e (getD h 3 0) ≡ x ∷ q
+      → Does layout (unlockOut i) h e r h' e' → Told (on layout (unlockOut i) h e .turn .woken) w w' → FirstOwns x q r w' (layout .num h') (waiting e' (getD h' 3 0))
+  first-owns i x q w w' o c l d t =
+      let y : on layout (unlockOut i) h e ≡ record { num = taken (ident x); turn = record { code = transferred; queue = q; woken = woken ok x ∷ [] } }
+      = rw (is-on layout (unlockOut i) h e m, o, l) (passed-on i (getD h 2 0) x q c) in
+      let u : Well (x ∷ q) = rw l at (v .queue) in
+      record {
+        code = d .code ∙ rw y refl;
+        owner = d .num ∙ rw y refl;
+        told = rw y at t;
+        others = d .queue ∙ rw y refl;
+        highest = u .sorted .0;
+      }
+
+  gets : (g : Mutex → List ℕ → ℤ) → r ≡ on layout (getOut g) h e .turn .code → r ≡ g (layout .num h) (waiting e (getD h 3 0))
+  gets g d = d ∙ rw (is-on layout (getOut g) h e m, inv-formed own (getD h 2 0) (waiting e (getD h 3 0)) v)
+
+  pub is-locked : r ≡ on layout (getOut (λ m q. isLocked m)) h e .turn .code → IsLocked (layout .num h) r
+  is-locked d = rw (gets (λ m q. isLocked m) d) (locked own (getD h 2 0) (waiting e (getD h 3 0)) v)
+
+  pub lock-count-get : r ≡ on layout (getOut (λ m q. pos (m .count))) h e .turn .code → LockCountGet (layout .num h) r
+  lock-count-get d = gets (λ m q. pos (m .count)) d
+
+  pub num-waiters : r ≡ on layout (getOut (λ m q. pos (length q))) h e .turn .code → NumWaiters (waiting e (getD h 3 0)) r
+  num-waiters d = gets (λ m q. pos (length q)) d
+
+  pub owner-get : r ≡ on layout (getOut (λ m q. ownerId (m .owner))) h e .turn .code → OwnerGet (layout .num h) r
+  owner-get d = gets (λ m q. ownerId (m .owner)) d
+
+  -- upstream demands fewer than 2^32 - 1 locks; the owner that has as many is refused
+  pub overflow-refuses : (i : ℕ) → own ≡ thread i → getD h 2 0 ≡ maxCount → Does layout (tryLockOut i) h e r h' e' → (r ≡ eoverflow) × (h' ≡ h) × (e' ≡ e)
+  overflow-refuses i o k d =
+      let f = inv-formed (thread i) (getD h 2 0) (waiting e (getD h 3 0)) (rw o at v) in
+      let y : on layout (tryLockOut i) h e .turn .code ≡ eoverflow = rw (is-on layout (tryLockOut i) h e m, o, no-lock i (getD h 2 0) (waiting e (getD h 3 0)) f k) in
+      unchanged layout (tryLockOut i) h e r h' e' 138 d y
+
+-- what upstream demands is refused here: a header that is not as it should be
+module _ (h e : List ℕ) (r : ℤ) (h' e' : List ℕ) (s : sane mutex-kind layout h e ≡ false) where
+  abbrev Stays : Type 0
+  Stays = (r ≡ einval) × (h' ≡ h) × (e' ≡ e)
+
+  pub try-lock-refuses : (i : ℕ) → Does layout (tryLockOut i) h e r h' e' → Stays
+  try-lock-refuses i d = barred mutex-kind layout h e (tryLockOut i) r h' e' (λ n q z. rw z) s d
+
+  pub lock-refuses : (i p st : ℕ) → Does layout (lockOut i p st) h e r h' e' → Stays
+  lock-refuses i p st d = barred mutex-kind layout h e (lockOut i p st) r h' e' (λ n q z. rw z) s d
+
+  pub unlock-refuses : (i : ℕ) → Does layout (unlockOut i) h e r h' e' → Stays
+  unlock-refuses i d = barred mutex-kind layout h e (unlockOut i) r h' e' (λ n q z. rw z) s d
+
+  pub get-refuses : (g : Mutex → List ℕ → ℤ) → r ≡ on layout (getOut g) h e .turn .code → r ≡ einval
+  get-refuses g d = d ∙ ap (λ (o : Out Mutex). o .turn .code) (malformed mutex-kind layout h e (getOut g) (λ n q z. rw z) s)
+
+-- upstream's lemmas, which end in `ensures true`
+pub owner-lock-count : (xs : List (Event Call)) → OwnerCount xs
+owner-lock-count xs =
+    let t : Lasting mutex-kind plain fresh xs = always mutex-kind mutex-lawful plain free xs refl in
+    formed-inv (after xs .num .owner) (after xs .num .count) (after xs .queue) (t .good .numbers) (t .good .queue)
+
+pub lock-unlock-roundtrip : (i : ℕ) → Roundtrip i
+lock-unlock-roundtrip i = record { locked = refl; owner = refl; unlocked = rw (eq-eqb i i refl); back = rw (eq-eqb i i refl) }
+
+-- the thread i has c locks, and nobody waits
+abbrev alone : ℕ → ℕ → Object Mutex
+alone i c = record { num = mk (thread i) c; queue = [] }
+
+-- what a call leaves
+abbrev left : Out Mutex → Object Mutex
+left o = record { num = o .num; queue = o .turn .queue }
+
+run-append : (s : Object Mutex) (xs ys : List (Event Call)) → run mutex-kind plain s (xs ++ ys) ≡ run mutex-kind plain (run mutex-kind plain s xs) ys
+run-append s [] ys = refl
+run-append s (x ∷ xs) ys = run-append (next mutex-kind plain s x) xs ys
+
+locks-more : (i k c : ℕ) → 0 < c → c + k ≤ maxCount → run mutex-kind plain (alone i c) (times k (calls i tryLock)) ≡ alone i (c + k)
+locks-more i zero c h l = ap (alone i) (omega arith)
+locks-more i (suc k) c h l =
+    ap (λ (o : Out Mutex). run mutex-kind plain (left o) (times k (calls i tryLock))) (next-lock i c [] (lt-ltb 0 c h) (omega arith))
+    ∙ locks-more i k (suc c) (omega arith) (omega arith)
+    ∙ ap (alone i) (omega arith)
+
+unlocks-all : (i k : ℕ) → run mutex-kind plain (alone i (suc k)) (times (suc k) (calls i unlock)) ≡ fresh
+unlocks-all i zero = ap left (now-free i 1 refl)
+unlocks-all i (suc k) =
+    let z : suc (suc k) - 1 ≡ suc k = omega arith in
+    ap (λ (o : Out Mutex). run mutex-kind plain (left o) (times (suc k) (calls i unlock))) (one-less i (suc (suc k)) [] (lt-ltb 0 (suc (suc k)) (omega arith)) (omega arith))
+    ∙ ap (λ (c : ℕ). run mutex-kind plain (alone i c) (times (suc k) (calls i unlock))) z
+    ∙ unlocks-all i k
+
+pub count-tracks-depth : (i n : ℕ) → 0 < n → n ≤ maxCount → Depth i n
+count-tracks-depth i zero h l = absurd (omega arith)
+count-tracks-depth i (suc k) h l =
+    let a : after (times (suc k) (calls i tryLock)) ≡ alone i (suc k) = locks-more i k 1 (omega arith) (omega arith) ∙ ap (alone i) (omega arith) in
+    record {
+      locked = a;
+      back =
+          run-append fresh (times (suc k) (calls i tryLock)) (times (suc k) (calls i unlock))
+          ∙ ap (λ (s : Object Mutex). run mutex-kind plain s (times (suc k) (calls i unlock))) a
+          ∙ unlocks-all i k;
+    }

@@ -1,0 +1,109 @@
+// Condition variables: the header's word, and the entries.
+use wait_queue::MAX_WAITERS;
+ghost use mathlib.Core.Path.{_≡_};
+ghost use mathlib.Core.List.{List};
+ghost use Prim.Native.Nat.{ℕ};
+ghost use lib.IntN.{pos};
+ghost use lib.ListN.{length};
+ghost use Rattle.wait_queue.specs.Post.{Told, Listed};
+ghost use Rattle.kind.specs.Object.{on, Does, Audited};
+ghost use Rattle.condvar.specs.Condvar.{condvar-kind};
+ghost use Rattle.condvar.specs.Post.{layout, signalOut, broadcastOut, getOut, hasWaiters, Starts, Waited, SignalDecided, BroadcastDecided, WaitDecided};
+
+#[no_mangle]
+pub extern "C" fn wq_condvar_signal_decide(has_waiter: bool) -> i32
+    ensures { λ r. ⌜ SignalDecided «has_waiter» r ⌝ }
+{
+    condvar::signal_decide(has_waiter)
+}
+
+#[no_mangle]
+pub extern "C" fn wq_condvar_broadcast_decide(num_waiters: u32) -> i32
+    ensures { λ r. ⌜ BroadcastDecided «num_waiters» r ⌝ }
+{
+    condvar::broadcast_decide(num_waiters)
+}
+
+#[no_mangle]
+pub extern "C" fn wq_condvar_wait_decide(is_no_wait: bool) -> i32
+    ensures { λ r. ⌜ WaitDecided «is_no_wait» r ⌝ }
+{
+    condvar::wait_decide(is_no_wait)
+}
+
+#[no_mangle]
+pub extern "C" fn wq_condvar_init(head: &mut [u32; 1]) -> i32
+    ensures { λ r. ⌜ Starts (now (head .entry)) r (now (head .exit)) ⌝ }
+{
+    condvar::init(head)
+}
+
+#[no_mangle]
+pub extern "C" fn wq_condvar_signal(
+    head: &mut [u32; 1],
+    entry: &[u64; MAX_WAITERS],
+    who: &mut u64,
+) -> i32
+    ensures { λ r. ⌜ Does layout signalOut (now (head .entry)) (now (entry .entry)) r (now (head .exit)) (now (entry .entry)) ⌝ }
+    ensures { λ r. ⌜ Told (on layout signalOut (now (head .entry)) (now (entry .entry)) .turn .woken) (now (who .entry)) (now (who .exit)) ⌝ }
+{
+    condvar::signal(head, entry, who)
+}
+
+#[no_mangle]
+pub extern "C" fn wq_condvar_broadcast(
+    head: &mut [u32; 1],
+    entry: &[u64; MAX_WAITERS],
+    out: &mut [u64],
+) -> i32
+    ensures { λ r. ⌜ Does layout (broadcastOut (length (now (out .entry)))) (now (head .entry)) (now (entry .entry)) r (now (head .exit)) (now (entry .entry)) ⌝ }
+    ensures { λ r. ⌜ Listed (on layout (broadcastOut (length (now (out .entry)))) (now (head .entry)) (now (entry .entry)) .turn .woken) (now (out .entry)) (now (out .exit)) ⌝ }
+{
+    condvar::broadcast(head, entry, out)
+}
+
+#[no_mangle]
+pub extern "C" fn wq_condvar_wait_blocking(
+    head: &mut [u32; 1],
+    entry: &mut [u64; MAX_WAITERS],
+    mutex_head: &mut [u32; 4],
+    mutex_entry: &[u64; MAX_WAITERS],
+    id: u32,
+    priority: u32,
+    state: u32,
+    who: &mut u64,
+) -> i32
+    ensures { λ r. ⌜ Waited id priority state (now (head .entry)) (now (entry .entry)) (now («mutex_head» .entry)) (now («mutex_entry» .entry)) (now (who .entry)) r (now (head .exit)) (now (entry .exit)) (now («mutex_head» .exit)) (now (who .exit)) ⌝ }
+{
+    condvar::wait_blocking(
+        head,
+        entry,
+        mutex_head,
+        mutex_entry,
+        id,
+        priority,
+        state,
+        who,
+    )
+}
+
+#[no_mangle]
+pub extern "C" fn wq_condvar_num_waiters(head: &[u32; 1], entry: &[u64; MAX_WAITERS]) -> i64
+    ensures { λ r. ⌜ r ≡ on layout (getOut (λ (q : List ℕ). pos (length q))) (now (head .entry)) (now (entry .entry)) .turn .code ⌝ }
+{
+    condvar::num_waiters(head, entry)
+}
+
+#[no_mangle]
+pub extern "C" fn wq_condvar_has_waiters(head: &[u32; 1], entry: &[u64; MAX_WAITERS]) -> i32
+    ensures { λ r. ⌜ r ≡ on layout (getOut hasWaiters) (now (head .entry)) (now (entry .entry)) .turn .code ⌝ }
+{
+    condvar::has_waiters(head, entry)
+}
+
+#[no_mangle]
+pub extern "C" fn wq_condvar_audit(head: &[u32; 1], entry: &[u64; MAX_WAITERS]) -> bool
+    ensures { λ r. ⌜ Audited condvar-kind layout (now (head .entry)) (now (entry .entry)) r ⌝ }
+{
+    condvar::audit(head, entry)
+}
