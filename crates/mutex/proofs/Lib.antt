@@ -1,3 +1,6 @@
 pub mod Law
 pub mod Answers
+pub mod Moves
+pub mod Histories
 pub mod Upstream
+pub mod Example
