@@ -32,6 +32,11 @@ void keep(void) { memcpy(&kept, &m, sizeof m); }
 
 bool stays(void) { return memcmp(&kept, &m, sizeof m) == 0; }
 
+void allow(const void *part, size_t size)
+{
+    memcpy((unsigned char *)&kept + ((const unsigned char *)part - (const unsigned char *)&m), part, size);
+}
+
 static bool filled(const void *from, const void *to)
 {
     for (const unsigned char *p = from; p < (const unsigned char *)to; p++)
@@ -43,8 +48,11 @@ static bool filled(const void *from, const void *to)
 static bool guards_stay(void)
 {
     return filled(&m.first, &m.thread) && filled(&m.second, &m.queue) && filled(&m.queue.len + 1, m.queue.entry) &&
-           filled(&m.third, &m.sem) && filled(m.sem.head + 3, m.sem.entry) && filled(&m.fourth, &m.who) &&
-           filled(&m.fifth, m.out) && filled(&m.last, &m + 1);
+           filled(&m.third, &m.sem) && filled(m.sem.head + 3, m.sem.entry) && filled(&m.fourth, &m.mutex) &&
+           filled(m.mutex.head + 4, m.mutex.entry) && filled(&m.fifth, &m.condvar) &&
+           filled(m.condvar.head + 1, m.condvar.entry) && filled(&m.sixth, &m.futex) &&
+           filled(m.futex.head + 2, m.futex.entry) && filled(&m.seventh, &m.who) && filled(&m.eighth, m.out) &&
+           filled(&m.last, &m + 1);
 }
 
 struct wq_thread *running(uint32_t id, uint32_t priority)
@@ -63,6 +71,15 @@ bool queue_is(const uint64_t *entry, uint32_t len, const uint32_t *ids, size_t c
     return true;
 }
 
+size_t all_in_order(uint32_t *ids)
+{
+    size_t count = 0;
+    for (uint32_t priority = 0; priority < WQ_MAX_PRIORITY; priority++)
+        for (uint32_t id = 31 - priority; id < WQ_MAX_WAITERS; id += WQ_MAX_PRIORITY)
+            ids[count++] = id;
+    return count;
+}
+
 bool handed_out(int32_t result, const uint32_t *ids, size_t count)
 {
     for (size_t i = 0; i < count; i++)
@@ -73,7 +90,8 @@ bool handed_out(int32_t result, const uint32_t *ids, size_t count)
 
 int main(void)
 {
-    const struct group *groups[] = {&thread_group, &wait_queue_group, &sem_group};
+    const struct group *groups[] = {&thread_group, &wait_queue_group, &sem_group,
+                                    &mutex_group,  &condvar_group,    &futex_group};
     unsigned passed = 0, failed = 0;
 
     for (size_t g = 0; g < sizeof groups / sizeof groups[0]; g++) {

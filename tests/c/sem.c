@@ -179,32 +179,24 @@ static void one_too_many_is_refused(void)
 }
 
 /* The caller's numbers are tested first, whether it would have to wait or not. */
-static void bad_callers(void)
+static void bad_callers_are_refused(void)
 {
-    m.thread = (struct wq_thread){8, 32, WQ_RUNNING, 0};
-    REFUSED(wq_k_sem_take(&m.sem, &m.thread), WQ_EINVAL);
-    m.thread = (struct wq_thread){8, 32, WQ_BLOCKED, 0};
-    REFUSED(wq_k_sem_take(&m.sem, &m.thread), WQ_EINVAL);
-    m.thread = (struct wq_thread){8, 5, WQ_BLOCKED, 0};
-    REFUSED(wq_k_sem_take(&m.sem, &m.thread), WQ_EBUSY);
-    m.thread = (struct wq_thread){8, 5, WQ_READY, 0};
-    REFUSED(wq_k_sem_take(&m.sem, &m.thread), WQ_EINVAL);
-    m.thread = (struct wq_thread){8, 5, WQ_SUSPENDED, 0};
-    REFUSED(wq_k_sem_take(&m.sem, &m.thread), WQ_EINVAL);
-    m.thread = (struct wq_thread){8, 5, UINT32_MAX, 0};
-    REFUSED(wq_k_sem_take(&m.sem, &m.thread), WQ_EINVAL);
+    for (size_t i = 0; i < BAD_CALLERS; i++) {
+        m.thread = (struct wq_thread){8, bad_callers[i].priority, bad_callers[i].state, 0};
+        REFUSED(wq_k_sem_take(&m.sem, &m.thread), bad_callers[i].code);
+    }
 }
 
 static void bad_callers_cannot_take(void)
 {
     made(2, 2);
-    bad_callers();
+    bad_callers_are_refused();
 }
 
 static void bad_callers_cannot_wait(void)
 {
     three_wait();
-    bad_callers();
+    bad_callers_are_refused();
 }
 
 static void of_two_refusals_the_first_is_answered(void)
@@ -231,10 +223,7 @@ static void a_reset_wakes_all_with_try_again(void)
 static void a_reset_of_a_full_queue(void)
 {
     uint32_t ids[WQ_MAX_WAITERS];
-    size_t count = 0;
-    for (uint32_t i = 0; i < WQ_MAX_PRIORITY; i++)
-        for (uint32_t id = 31 - i; id < WQ_MAX_WAITERS; id += WQ_MAX_PRIORITY)
-            ids[count++] = id;
+    const size_t count = all_in_order(ids);
     all_wait();
     EQUAL(wq_k_sem_reset(&m.sem, m.out, PLACE), WQ_MAX_WAITERS);
     CHECK(handed_out(WQ_EAGAIN, ids, count));
@@ -354,10 +343,9 @@ static void an_audit_changes_nothing(void)
 
 static void an_audit_finds_a_bad_queue(void)
 {
-    const uint64_t bad[] = {entry_of(6, 3), entry_of(2, 7), entry_of(2, 9), UINT64_MAX};
-    for (size_t i = 0; i < sizeof bad / sizeof bad[0]; i++) {
+    for (size_t i = 0; i < BAD_ENTRIES; i++) {
         three_wait();
-        m.sem.entry[2] = bad[i];
+        m.sem.entry[bad_entries[i].at] = entry_of(bad_entries[i].priority, bad_entries[i].id);
         REFUSED(wq_k_sem_audit(&m.sem), false);
     }
 }

@@ -19,6 +19,7 @@ static void the_codes(void)
     EQUAL(WQ_EINVAL, -22);
     EQUAL(WQ_EPIPE, -32);
     EQUAL(WQ_ENOMSG, -35);
+    EQUAL(WQ_EDEADLK, -45);
     EQUAL(WQ_EOVERFLOW, -139);
     EQUAL(WQ_ECANCELED, -140);
 }

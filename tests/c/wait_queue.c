@@ -253,10 +253,9 @@ static void of_two_refusals_the_first_is_answered(void)
 
 static void a_length_above_the_limit_is_refused(void)
 {
-    const uint32_t too_long[] = {WQ_MAX_WAITERS + 1, 1u << 31, UINT32_MAX};
     all_wait();
     running(WQ_MAX_WAITERS, 5);
-    for (size_t i = 0; i < sizeof too_long / sizeof too_long[0]; i++) {
+    for (size_t i = 0; i < TOO_LONG; i++) {
         m.queue.len = too_long[i];
         REFUSED(wq_len(&m.queue), WQ_EINVAL);
         REFUSED(wq_is_empty(&m.queue), WQ_EINVAL);
