@@ -1,9 +1,17 @@
 //! What both sides are asked, and what both answer.
 
-#[derive(Clone, Copy, Debug, PartialEq, Eq)]
+use std::fmt;
+
+#[derive(Clone, Copy, PartialEq, Eq)]
 pub struct Caller {
     pub id: u32,
     pub priority: u32,
+}
+
+impl fmt::Debug for Caller {
+    fn fmt(&self, f: &mut fmt::Formatter) -> fmt::Result {
+        write!(f, "thread {} of priority {}", self.id, self.priority)
+    }
 }
 
 /// A code as in the C interface, and the woken threads: the id and the result of each.

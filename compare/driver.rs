@@ -2,7 +2,14 @@
 
 mod answer;
 mod memory;
+mod numbers;
 mod objects {
+    pub mod condvar;
+    pub mod condvar_rules;
+    pub mod futex;
+    pub mod futex_rules;
+    pub mod mutex;
+    pub mod mutex_rules;
     pub mod sem;
     pub mod sem_rules;
     pub mod thread;
@@ -13,11 +20,7 @@ mod ours;
 mod queue;
 mod report;
 mod rng;
-mod upstream {
-    pub mod sem;
-    pub mod thread;
-    pub mod wait_queue;
-}
+mod upstream;
 mod walk;
 
 const SEED: u64 = 0x5EED_0F6A_1E00_0001;
@@ -27,5 +30,8 @@ fn main() -> std::process::ExitCode {
     objects::thread::compare(&mut report);
     objects::wait_queue::compare(&mut report, SEED);
     objects::sem::compare(&mut report, SEED);
+    objects::mutex::compare(&mut report, SEED);
+    objects::condvar::compare(&mut report, SEED);
+    objects::futex::compare(&mut report, SEED);
     report.finish()
 }

@@ -3,10 +3,9 @@
 //! over any entries does what it says.
 
 use crate::answer::{Answer, Caller};
-use crate::ours::{entry_of, Memory, BLOCKED, EBUSY, EINVAL, ENOMEM, RUNNING, WAITERS, WAITS};
+use crate::ours::{entry_of, Library, Memory, BLOCKED, EBUSY, EINVAL, ENOMEM, RUNNING, WAITERS, WAITS};
 use crate::report::{Kind, Report, Tally};
 use crate::rng::Rng;
-use std::fmt::Debug;
 
 const MALFORMED: &str = "a malformed header: -22";
 const REFUSED: &str = "a well-formed header, a refusal in its order";
@@ -42,20 +41,25 @@ impl<const N: usize> Expected<N> {
 }
 
 /// The rules of an object of N header words, the last of which is the number of those that wait.
-pub trait Rules<const N: usize> {
-    type Call: Copy + Debug;
-
+pub trait Rules<const N: usize>: Library<N> {
     fn is_malformed(head: &[u32; N]) -> bool;
-    /// Whether the call looks at the header; one that makes the object does not.
+    /// Whether the call looks at the header before all else; one that makes the object does not look at all.
     fn looks(call: Self::Call) -> bool;
-    fn calls(rng: &mut Rng) -> Vec<Self::Call>;
-    /// What a call does that does not look at the header, or finds it well formed.
+    fn calls(memory: &Memory<N>, rng: &mut Rng) -> Vec<Self::Call>;
+    /// What a call does that finds the header well formed, or does not look at it before all else.
     fn expected(memory: &Memory<N>, call: Self::Call) -> Expected<N>;
-    fn ask(memory: &mut Memory<N>, call: Self::Call) -> Result<Answer, String>;
     /// What the functions that only read are to answer for a well-formed header.
-    fn numbers(head: &[u32; N]) -> Vec<i64>;
-    fn ask_numbers(memory: &Memory<N>) -> Vec<i64>;
-    fn audit(memory: &Memory<N>) -> bool;
+    fn expected_numbers(head: &[u32; N]) -> Self::Numbers;
+
+    /// The header, with one word for all words that mean the same.
+    fn meaning(head: [u32; N]) -> [u32; N] {
+        head
+    }
+
+    /// Whether a well-formed header and its entries go together.
+    fn is_whole(memory: &Memory<N>) -> bool {
+        is_whole(memory.waiting())
+    }
 }
 
 fn priority_of(entry: u64) -> u32 {
@@ -70,7 +74,7 @@ fn is_sorted(entries: &[u64]) -> bool {
     entries.windows(2).all(|pair| priority_of(pair[0]) >= priority_of(pair[1]))
 }
 
-fn is_whole(entries: &[u64]) -> bool {
+pub fn is_whole(entries: &[u64]) -> bool {
     let repeats = |i: usize| entries[..i].iter().any(|&other| id_of(other) == id_of(entries[i]));
     let in_range = entries.iter().all(|&entry| priority_of(entry) < 32);
     in_range && is_sorted(entries) && !(0..entries.len()).any(repeats)
@@ -88,7 +92,9 @@ pub fn caller_refusal(caller: Caller, state: u32) -> Option<i32> {
     }
 }
 
-pub fn joins<const N: usize>(entries: &[u64], caller: Caller) -> Expected<N> {
+/// What a wait does that nothing else refuses.
+pub fn joins<const N: usize>(memory: &Memory<N>, caller: Caller) -> Expected<N> {
+    let entries = memory.waiting();
     if entries.iter().any(|&entry| id_of(entry) == caller.id) {
         Expected::refusal(EBUSY)
     } else if entries.len() == WAITERS {
@@ -98,12 +104,28 @@ pub fn joins<const N: usize>(entries: &[u64], caller: Caller) -> Expected<N> {
     }
 }
 
-pub fn wakes_all<const N: usize>(entries: &[u64], result: i32, room: usize, head: [u32; N]) -> Expected<N> {
-    if room < entries.len() {
+/// Wakes so many, first to last; the other header words stay.
+fn wakes<const N: usize>(memory: &Memory<N>, code: i32, count: usize, result: i32) -> Expected<N> {
+    let woken = memory.waiting().iter().rev().take(count).map(|&entry| (id_of(entry), result)).collect();
+    let mut head = memory.head;
+    head[N - 1] -= count as u32;
+    Expected { answer: Answer { code, woken }, change: Change::Head(head) }
+}
+
+/// Answers the code and wakes the first, or answers 0 where nobody waits.
+pub fn wakes_first<const N: usize>(memory: &Memory<N>, code: i32, result: i32) -> Expected<N> {
+    if memory.len() == 0 {
+        return Expected::done(0, Change::Nothing);
+    }
+    wakes(memory, code, 1, result)
+}
+
+/// Wakes so many and answers the number, if there is room for all of them.
+pub fn wakes_many<const N: usize>(memory: &Memory<N>, count: usize, result: i32, room: usize) -> Expected<N> {
+    if room < count {
         return Expected::refusal(EINVAL);
     }
-    let woken = entries.iter().rev().map(|&entry| (id_of(entry), result)).collect();
-    Expected { answer: Answer { code: entries.len() as i32, woken }, change: Change::Head(head) }
+    wakes(memory, count as i32, count, result)
 }
 
 /// Whether `longer` is `shorter` with one such entry put in somewhere.
@@ -119,18 +141,30 @@ fn stands_well(before: &[u64], after: &[u64], caller: Caller) -> bool {
     !is_sorted(before) || id_of(after[place]) == caller.id
 }
 
-fn changed_right<const N: usize>(before: &Memory<N>, after: &Memory<N>, change: &Change<N>) -> bool {
-    let waiting = |memory: &Memory<N>| memory.entry[..(memory.len() as usize).min(WAITERS)].to_vec();
-    let (old, new) = (waiting(before), waiting(after));
+/// What of the memory is not as the change says.
+pub fn wrong_part<R: Rules<N>, const N: usize>(
+    before: &Memory<N>,
+    after: &Memory<N>,
+    change: &Change<N>,
+) -> Option<&'static str> {
+    let (old, new) = (before.waiting(), after.waiting());
+    let behind = old.len().max(new.len());
     let numbers_stay = before.head[..N - 1] == after.head[..N - 1];
-    match *change {
+    let right = match *change {
         Change::Nothing => before == after,
-        Change::Head(head) => after.head == head && after.entry == before.entry,
+        Change::Head(head) => R::meaning(after.head) == R::meaning(head) && after.entry == before.entry,
         Change::Joined(caller) => {
-            let grown = has_one_more(&new, &old, |entry| entry == entry_of(caller));
-            numbers_stay && grown && stands_well(&old, &new, caller)
+            let grown = has_one_more(new, old, |entry| entry == entry_of(caller));
+            numbers_stay && grown && stands_well(old, new, caller)
         }
-        Change::Removed(id) => numbers_stay && old.iter().copied().filter(|&entry| id_of(entry) != id).eq(new.iter().copied()),
+        Change::Removed(id) => numbers_stay && old.iter().filter(|&&entry| id_of(entry) != id).eq(new),
+    };
+    if !after.guards_stand() {
+        Some("words beside the object")
+    } else if before.entry[behind..] != after.entry[behind..] {
+        Some("words behind the queue")
+    } else {
+        (!right).then_some("numbers or a queue")
     }
 }
 
@@ -174,7 +208,7 @@ fn any_entries(rng: &mut Rng) -> [u64; WAITERS] {
     entries
 }
 
-fn any_memory<const N: usize>(rng: &mut Rng) -> Memory<N> {
+pub fn any_memory<const N: usize>(rng: &mut Rng) -> Memory<N> {
     let mut head = [0; N];
     head.fill_with(|| any_number(rng));
     head[N - 1] = rng.pick(&LENGTHS);
@@ -189,8 +223,8 @@ fn check_call<R: Rules<N>, const N: usize>(memory: &Memory<N>, call: R::Call) ->
     if answer != expected.answer {
         return Err(format!("expected {:?}, ours {answer:?}", expected.answer));
     }
-    if !after.guards_stand() || !changed_right(memory, &after, &expected.change) {
-        return Err(format!("answers {} as it should, and leaves:\n{}", answer.code, show(&after)));
+    if let Some(part) = wrong_part::<R, N>(memory, &after, &expected.change) {
+        return Err(format!("answers {} as it should, and leaves wrong {part}:\n  {after:?}", answer.code));
     }
     Ok(Kind::Outside(match answer.code {
         _ if malformed => MALFORMED,
@@ -201,45 +235,43 @@ fn check_call<R: Rules<N>, const N: usize>(memory: &Memory<N>, call: R::Call) ->
 
 fn check_numbers<R: Rules<N>, const N: usize>(memory: &Memory<N>) -> Result<Kind, String> {
     let malformed = R::is_malformed(&memory.head);
-    let mut expected = R::numbers(&memory.head);
+    let mut expected = R::expected_numbers(&memory.head);
     if malformed {
-        expected.fill(EINVAL.into());
+        expected.as_mut().fill(EINVAL.into());
     }
-    let whole = !malformed && is_whole(&memory.entry[..memory.len() as usize]);
-    let (numbers, audit) = (R::ask_numbers(memory), R::audit(memory));
+    let whole = !malformed && R::is_whole(memory);
+    let (numbers, audit) = (R::numbers(memory), R::audit(memory));
     if numbers != expected || audit != whole {
         return Err(format!("expected {expected:?}, audit {whole}; ours {numbers:?}, audit {audit}"));
     }
     Ok(Kind::Outside(if malformed { MALFORMED } else { DONE }))
 }
 
-fn show<const N: usize>(memory: &Memory<N>) -> String {
-    format!("  header {:?}, queue, hexadecimal:{}", memory.head, memory.show_queue())
-}
-
 fn checks<R: Rules<N>, const N: usize>(memory: &Memory<N>, rng: &mut Rng) -> Vec<(String, Result<Kind, String>)> {
-    let calls = R::calls(rng).into_iter();
+    let calls = R::calls(memory, rng).into_iter();
     let mut all: Vec<_> = calls.map(|call| (format!("{call:?}"), check_call::<R, N>(memory, call))).collect();
     all.push(("numbers and audit".to_string(), check_numbers::<R, N>(memory)));
     all
 }
 
-/// Goes on after a deviation, so that the one with the fewest entries is named.
+/// Goes on after a deviation, so that the one is named that is told in the fewest words.
 fn compare_all<R: Rules<N>, const N: usize>(rng: &mut Rng, tally: &mut Tally) -> Result<(), String> {
-    let mut smallest: Option<(u32, String)> = None;
+    let mut shortest: Option<String> = None;
     for _ in 0..MEMORIES {
         let memory = any_memory::<N>(rng);
         for (what, outcome) in checks::<R, N>(&memory, rng) {
             match outcome {
                 Ok(kind) => tally.count(kind),
-                Err(why) if smallest.as_ref().is_none_or(|(len, _)| memory.len() < *len) => {
-                    smallest = Some((memory.len(), format!("{}\n    {what}\n  {why}", show(&memory))));
+                Err(why) => {
+                    let told = format!("  {memory:?}\n    {what}\n  {why}");
+                    if shortest.as_ref().is_none_or(|known| told.len() < known.len()) {
+                        shortest = Some(told);
+                    }
                 }
-                Err(_) => {}
             }
         }
     }
-    smallest.map_or(Ok(()), |(_, why)| Err(why))
+    shortest.map_or(Ok(()), Err)
 }
 
 pub fn compare<R: Rules<N>, const N: usize>(report: &mut Report, name: &'static str, seed: u64) {

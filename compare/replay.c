@@ -8,7 +8,7 @@
 #include <stdlib.h>
 #include <string.h>
 
-enum { MAX_NUMBERS = 80, MAX_LINE = 4096 };
+enum { MAX_NUMBERS = 160, MAX_LINE = 4096 };
 
 struct numbers {
     int n;
@@ -24,6 +24,9 @@ struct result {
 static struct wq_thread thread;
 static struct wq_wait_queue queue;
 static struct wq_sem sem;
+static struct wq_mutex mutex;
+static struct wq_condvar condvar;
+static struct wq_futex futex;
 
 static void put(struct numbers *to, long long v)
 {
@@ -62,9 +65,9 @@ static struct wq_thread running(long long id, long long priority)
     return t;
 }
 
-static void check_waits(struct result *r, const struct wq_thread *t, int32_t code)
+static void check_waits(struct result *r, const struct wq_thread *t, bool waits)
 {
-    if (t->state != (code == WQ_WAITS ? WQ_BLOCKED : WQ_RUNNING))
+    if (t->state != (waits ? WQ_BLOCKED : WQ_RUNNING))
         r->broken = "the caller's state is wrong";
 }
 
@@ -145,7 +148,7 @@ static void wait_queue_pend(const long long *in, struct result *r)
     struct wq_thread t = running(in[0], in[1]);
     int32_t code = wq_pend(&queue, &t);
     answer(r, code);
-    check_waits(r, &t, code);
+    check_waits(r, &t, code == WQ_WAITS);
     wait_queue_hold(r);
 }
 
@@ -212,7 +215,7 @@ static void sem_take_blocking(const long long *in, struct result *r)
     struct wq_thread t = running(in[0], in[1]);
     int32_t code = wq_k_sem_take(&sem, &t);
     answer(r, code);
-    check_waits(r, &t, code);
+    check_waits(r, &t, code == WQ_WAITS);
     sem_hold(r);
 }
 
@@ -236,6 +239,181 @@ static void sem_take_decide(const long long *in, struct result *r)
     answer(r, wq_sem_take_decide((uint32_t)in[0], in[1] != 0));
 }
 
+/* ---- Mutex -------------------------------------------------------------------------------- */
+
+static void mutex_hold(struct result *r)
+{
+    bool locked = mutex.head[0] != 0;
+    put(&r->after, wq_k_mutex_lock_count_get(&mutex));
+    put(&r->after, wq_k_mutex_owner_get(&mutex));
+    hold_queue(r, mutex.head[3], mutex.entry);
+    if (wq_k_mutex_is_locked(&mutex) != locked || wq_k_mutex_num_waiters(&mutex) != mutex.head[3] ||
+        !wq_k_mutex_audit(&mutex))
+        r->broken = "whether it is locked, number of waiters or audit is wrong";
+}
+
+static void mutex_init(const long long *in, struct result *r)
+{
+    (void)in;
+    answer(r, wq_k_mutex_init(&mutex));
+    mutex_hold(r);
+}
+
+static void mutex_try_lock(const long long *in, struct result *r)
+{
+    answer(r, wq_k_mutex_try_lock(&mutex, (uint32_t)in[0]));
+    mutex_hold(r);
+}
+
+static void mutex_lock_blocking(const long long *in, struct result *r)
+{
+    struct wq_thread t = running(in[0], in[1]);
+    int32_t code = wq_k_mutex_lock(&mutex, &t);
+    answer(r, code);
+    check_waits(r, &t, code == WQ_WAITS);
+    mutex_hold(r);
+}
+
+static void mutex_unlock(const long long *in, struct result *r)
+{
+    wq_woken who;
+    int32_t code = wq_k_mutex_unlock(&mutex, (uint32_t)in[0], &who);
+    answer(r, code);
+    if (code == WQ_UNLOCK_TRANSFERRED)
+        answer_woken(r, who);
+    mutex_hold(r);
+}
+
+static void mutex_lock_decide(const long long *in, struct result *r)
+{
+    answer(r, wq_mutex_lock_decide((uint32_t)in[0], in[1] != 0, in[2] != 0, in[3] != 0));
+}
+
+static void mutex_unlock_decide(const long long *in, struct result *r)
+{
+    answer(r, wq_mutex_unlock_decide((uint32_t)in[0], in[1] != 0, in[2] != 0));
+}
+
+/* ---- Condition variable, with the mutex --------------------------------------------------- */
+
+static void condvar_hold(struct result *r)
+{
+    uint32_t waiting = condvar.head[0];
+    hold_queue(r, waiting, condvar.entry);
+    mutex_hold(r);
+    if (wq_k_condvar_num_waiters(&condvar) != waiting || wq_k_condvar_has_waiters(&condvar) != (waiting > 0) ||
+        !wq_k_condvar_audit(&condvar))
+        r->broken = "number of waiters, whether there are any, or audit is wrong";
+}
+
+static void condvar_init(const long long *in, struct result *r)
+{
+    (void)in;
+    answer(r, wq_k_condvar_init(&condvar));
+    condvar_hold(r);
+}
+
+static void condvar_wait(const long long *in, struct result *r)
+{
+    struct wq_thread t = running(in[0], in[1]);
+    wq_woken who;
+    int32_t code = wq_k_condvar_wait(&condvar, &mutex, &t, &who);
+    answer(r, code);
+    if (code == WQ_UNLOCK_TRANSFERRED)
+        answer_woken(r, who);
+    check_waits(r, &t, code > 0);
+    condvar_hold(r);
+}
+
+static void condvar_signal(const long long *in, struct result *r)
+{
+    wq_woken who;
+    int32_t code = wq_k_condvar_signal(&condvar, &who);
+    (void)in;
+    answer(r, code);
+    if (code == 1)
+        answer_woken(r, who);
+    condvar_hold(r);
+}
+
+static void condvar_broadcast(const long long *in, struct result *r)
+{
+    struct wq_condvar before = condvar;
+    wq_woken out[WQ_MAX_WAITERS] = {0};
+    (void)in;
+    answer(r, wq_k_condvar_broadcast(&condvar, out, WQ_MAX_WAITERS));
+    check_woken(r, before.head[0], before.entry, out, WQ_OK);
+    condvar_hold(r);
+}
+
+static void condvar_signal_decide(const long long *in, struct result *r)
+{
+    answer(r, wq_condvar_signal_decide(in[0] != 0));
+}
+
+static void condvar_broadcast_decide(const long long *in, struct result *r)
+{
+    answer(r, wq_condvar_broadcast_decide((uint32_t)in[0]));
+}
+
+static void condvar_wait_decide(const long long *in, struct result *r)
+{
+    answer(r, wq_condvar_wait_decide(in[0] != 0));
+}
+
+/* ---- Futex -------------------------------------------------------------------------------- */
+
+static void futex_hold(struct result *r)
+{
+    put(&r->after, wq_k_futex_val_get(&futex));
+    hold_queue(r, futex.head[1], futex.entry);
+    if (wq_k_futex_num_waiters(&futex) != futex.head[1] || !wq_k_futex_audit(&futex))
+        r->broken = "number of waiters or audit is wrong";
+}
+
+static void futex_init(const long long *in, struct result *r)
+{
+    answer(r, wq_k_futex_init(&futex, (uint32_t)in[0]));
+    futex_hold(r);
+}
+
+static void futex_wait(const long long *in, struct result *r)
+{
+    struct wq_thread t = running(in[1], in[2]);
+    int32_t code = wq_k_futex_wait(&futex, (uint32_t)in[0], &t);
+    answer(r, code);
+    check_waits(r, &t, code == WQ_WAITS);
+    futex_hold(r);
+}
+
+static void futex_wake(const long long *in, struct result *r)
+{
+    wq_woken out[WQ_MAX_WAITERS] = {0};
+    int32_t code = wq_k_futex_wake(&futex, in[0] != 0, out, WQ_MAX_WAITERS);
+    answer(r, code);
+    for (int32_t i = 0; i < code && i < WQ_MAX_WAITERS; i++)
+        answer_woken(r, out[i]);
+    futex_hold(r);
+}
+
+static void futex_val_set(const long long *in, struct result *r)
+{
+    answer(r, wq_k_futex_val_set(&futex, (uint32_t)in[0]));
+    futex_hold(r);
+}
+
+static void futex_wait_decide(const long long *in, struct result *r)
+{
+    answer(r, wq_futex_wait_decide((uint32_t)in[0], (uint32_t)in[1]));
+}
+
+static void futex_wake_decide(const long long *in, struct result *r)
+{
+    uint32_t remaining = UINT32_MAX;
+    answer(r, wq_futex_wake_decide((uint32_t)in[0], in[1] != 0, &remaining));
+    put(&r->after, remaining);
+}
+
 /* ---- The file ----------------------------------------------------------------------------- */
 
 static const struct {
@@ -251,6 +429,7 @@ static const struct {
     {"EINVAL", WQ_EINVAL},
     {"EPIPE", WQ_EPIPE},
     {"ENOMSG", WQ_ENOMSG},
+    {"EDEADLK", WQ_EDEADLK},
     {"EOVERFLOW", WQ_EOVERFLOW},
     {"ECANCELED", WQ_ECANCELED},
     {"MAX_PRIORITY", WQ_MAX_PRIORITY},
@@ -282,6 +461,25 @@ static const struct {
     {"sem.reset", 0, sem_reset},
     {"sem.give_decide", 3, sem_give_decide},
     {"sem.take_decide", 2, sem_take_decide},
+    {"mutex.init", 0, mutex_init},
+    {"mutex.try_lock", 1, mutex_try_lock},
+    {"mutex.lock_blocking", 2, mutex_lock_blocking},
+    {"mutex.unlock", 1, mutex_unlock},
+    {"mutex.lock_decide", 4, mutex_lock_decide},
+    {"mutex.unlock_decide", 3, mutex_unlock_decide},
+    {"condvar.init", 0, condvar_init},
+    {"condvar.wait", 2, condvar_wait},
+    {"condvar.signal", 0, condvar_signal},
+    {"condvar.broadcast", 0, condvar_broadcast},
+    {"condvar.signal_decide", 1, condvar_signal_decide},
+    {"condvar.broadcast_decide", 1, condvar_broadcast_decide},
+    {"condvar.wait_decide", 1, condvar_wait_decide},
+    {"futex.init", 1, futex_init},
+    {"futex.wait", 3, futex_wait},
+    {"futex.wake", 1, futex_wake},
+    {"futex.val_set", 1, futex_val_set},
+    {"futex.wait_decide", 2, futex_wait_decide},
+    {"futex.wake_decide", 2, futex_wake_decide},
 };
 
 #define COUNT(table) (sizeof(table) / sizeof(table)[0])

@@ -2,18 +2,20 @@
 
 use crate::report::{Kind, Tally};
 use crate::rng::Rng;
+use std::fmt::Debug;
 
 /// An object on both sides.
 pub trait Pair: Clone {
-    type Op: Copy;
+    type Op: Copy + Debug;
 
+    /// All operations of the walks over all sequences.
+    fn ops(&self) -> Vec<Self::Op>;
     /// Runs the operation on both sides and holds answers and states against each other.
     fn step(&mut self, op: Self::Op) -> Result<Kind, String>;
     /// What ours says of itself: whether it is well formed as a whole.
     fn audit(&self) -> bool;
     fn draw(&self, rng: &mut Rng) -> Self::Op;
     fn show(&self) -> String;
-    fn show_op(&self, op: Self::Op) -> String;
 }
 
 /// Operations after which the two sides were not alike, and how.
@@ -22,9 +24,9 @@ struct Deviation<Op> {
     why: String,
 }
 
-impl<Op: Copy> Deviation<Op> {
+impl<Op: Copy + Debug> Deviation<Op> {
     fn describe<P: Pair<Op = Op>>(&self, start: &P) -> String {
-        let steps: Vec<String> = self.ops.iter().map(|&op| format!("    {}\n", start.show_op(op))).collect();
+        let steps: Vec<String> = self.ops.iter().map(|op| format!("    {op:?}\n")).collect();
         format!("  {}\n{}  {}", start.show(), steps.concat(), self.why)
     }
 }
@@ -38,13 +40,13 @@ fn checked<P: Pair>(at: &mut P, op: P::Op) -> Result<Kind, String> {
 }
 
 /// All sequences of up to `depth` operations from each start. A deviation names a shortest sequence.
-pub fn all_sequences<P: Pair>(starts: &[P], ops: &[P::Op], depth: usize, tally: &mut Tally) -> Result<(), String> {
-    if starts.iter().all(|start| visit(start, ops, depth, tally).is_ok()) {
+pub fn all_sequences<P: Pair>(starts: &[P], depth: usize, tally: &mut Tally) -> Result<(), String> {
+    if starts.iter().all(|start| visit(start, &start.ops(), depth, tally).is_ok()) {
         return Ok(());
     }
     let shortest = (1..=depth).find_map(|depth| {
         starts.iter().find_map(|start| {
-            let deviation = visit(start, ops, depth, &mut Tally::default()).err()?;
+            let deviation = visit(start, &start.ops(), depth, &mut Tally::default()).err()?;
             Some(deviation.describe(start))
         })
     });

@@ -1,176 +1,105 @@
 //! The counting semaphore.
 
-use super::sem_rules::SemRules;
 use crate::answer::{Answer, Caller};
 use crate::memory;
-use crate::ours::{self, Sem, BLOCKED, EAGAIN, EBUSY, EINVAL, ENOMEM, RUNNING, WOKE};
+use crate::numbers::{edges, equal};
+use crate::ours::sem::{self as ours, Sem, WOKE};
+use crate::ours::{Library, Memory, EAGAIN, EINVAL};
 use crate::queue::{
-    copy, draw_thread, random_threads, refused_as_blocked, same_answer, same_queue, show_caller, three_threads, FULL,
-    WAITS,
+    draw_thread, random_threads, refused, same_numbers, same_queue, woken_all, Both, Object, Scene, FULL, WAITS,
 };
 use crate::report::{Kind, Report, Tally};
 use crate::rng::Rng;
-use crate::upstream::sem::{call, give_decision, init, outside, take_decision, Call, Outside};
-use crate::upstream::wait_queue::waiting;
-use crate::walk::{all_sequences, random_sequences, Pair};
+use crate::upstream::sem::{give_decision, init, take_decision, Apart, Call};
+use crate::upstream::wait_queue::is_in;
+use crate::upstream::Upstream;
+use crate::walk::{all_sequences, random_sequences};
 use gale::sem::{give_decide, take_decide, Semaphore};
-use std::rc::Rc;
 
 const AVAILABLE: &str = "take_blocking while the count is above 0: takes, as try_take";
 const MALFORMED: &str = "give_decide, limit 0 or count above it: -22";
 const WAITER_AND_COUNT: &str = "give_decide, somebody waits while the count is above 0: Gale wakes (0), ours -22";
 
-#[derive(Clone, Copy)]
-enum Op {
-    Give,
-    TryTake,
-    Take(usize),
-    Reset,
-}
+impl Object for Sem {
+    type Gale = Semaphore;
+    type Ours = Memory<3>;
+    type Call = Call;
 
-struct Both {
-    gale: Semaphore,
-    ours: Sem,
-    threads: Rc<[Caller]>,
-    weights: [u32; 4],
-}
-
-impl Clone for Both {
-    fn clone(&self) -> Self {
-        let Semaphore { wait_q, count, limit } = &self.gale;
-        let gale = Semaphore { wait_q: copy(wait_q), count: *count, limit: *limit };
-        Both { gale, ours: self.ours, threads: self.threads.clone(), weights: self.weights }
-    }
-}
-
-impl Both {
-    fn new(count: u32, limit: u32, threads: Rc<[Caller]>, weights: [u32; 4]) -> Self {
-        let mut ours = Sem::raw();
-        ours.init(count, limit);
-        Both { gale: init(count, limit).1.unwrap(), ours, threads, weights }
-    }
-
-    fn call_of(&self, op: Op) -> Call {
-        match op {
-            Op::Give => Call::Give,
-            Op::TryTake => Call::TryTake,
-            Op::Take(i) => Call::TakeBlocking(self.threads[i]),
-            Op::Reset => Call::Reset,
-        }
-    }
-
-    fn expected(&mut self, to_do: Call) -> (Answer, Kind) {
-        match outside(&self.gale, to_do) {
-            None => (self.ask_gale(to_do), Kind::Same),
-            Some(Outside::Available) => (call(&mut self.gale, Call::TryTake), Kind::Outside(AVAILABLE)),
-            Some(Outside::Waits) => (Answer::code(EBUSY), Kind::Outside(WAITS)),
-            Some(Outside::Full) => (Answer::code(ENOMEM), Kind::Outside(FULL)),
-        }
-    }
-
-    /// Upstream's reset only counts, so those that wait before it are taken for the woken.
-    fn ask_gale(&mut self, to_do: Call) -> Answer {
-        if let Call::Reset = to_do {
-            let woken = waiting(&self.gale.wait_q).map(|thread| (thread.id.id, EAGAIN)).collect();
-            return Answer { woken, ..call(&mut self.gale, to_do) };
-        }
-        call(&mut self.gale, to_do)
-    }
-
-    fn ask_ours(&mut self, to_do: Call, waits: bool) -> Result<Answer, String> {
-        match to_do {
-            Call::Give => self.ours.give(),
-            Call::TryTake => Ok(Answer::code(self.ours.try_take())),
-            Call::TakeBlocking(caller) => {
-                if waits {
-                    refused_as_blocked(self.ours.take_blocking(caller, BLOCKED))?;
-                }
-                Ok(Answer::code(self.ours.take_blocking(caller, RUNNING)))
+    fn expected(gale: &mut Semaphore, call: Call) -> (Answer, Kind) {
+        match gale.apart(call) {
+            None if matches!(call, Call::Reset) => {
+                let woken = woken_all(&gale.wait_q, EAGAIN);
+                (Answer { woken, ..gale.call(call) }, Kind::Same)
             }
-            Call::Reset => self.ours.reset(self.ours.len() as usize),
+            None => (gale.call(call), Kind::Same),
+            Some(Apart::Available) => (gale.call(Call::TryTake), Kind::Outside(AVAILABLE)),
+            Some(Apart::Queue(why)) => refused(why),
         }
     }
 
-    fn same_numbers(&self) -> Result<(), String> {
-        let gale = [self.gale.count_get(), self.gale.limit_get(), self.gale.num_waiters()].map(i64::from);
-        if gale == self.ours.numbers() {
-            return Ok(());
+    fn ask_ours(sem: &mut Memory<3>, call: Call, state: u32) -> Result<Answer, String> {
+        let call = match call {
+            Call::Give => ours::Call::Give,
+            Call::TryTake => ours::Call::TryTake,
+            Call::TakeBlocking(caller) => ours::Call::TakeBlocking(caller, state),
+            Call::Reset => ours::Call::Reset { room: sem.len() as usize },
+        };
+        Sem::ask(sem, call)
+    }
+
+    fn same(gale: &Semaphore, ours: &Memory<3>) -> Result<(), String> {
+        let numbers = [gale.count_get(), gale.limit_get(), gale.num_waiters()].map(i64::from);
+        same_numbers::<Sem, 3>(numbers, ours)?;
+        same_queue(&gale.wait_q, ours)
+    }
+
+    fn audit_ours(ours: &Memory<3>) -> bool {
+        Sem::audit(ours)
+    }
+
+    fn calls(threads: &[Caller]) -> Vec<Call> {
+        let takes = threads.iter().map(|&caller| Call::TakeBlocking(caller));
+        [Call::Give, Call::TryTake, Call::Reset].into_iter().chain(takes).collect()
+    }
+
+    fn draw(gale: &Semaphore, scene: &Scene, rng: &mut Rng) -> Call {
+        match rng.weighed(&scene.weights) {
+            0 => Call::Give,
+            1 => Call::TryTake,
+            2 => Call::TakeBlocking(draw_thread(scene, rng, |id| is_in(&gale.wait_q, id))),
+            _ => Call::Reset,
         }
-        Err(format!("count, limit, waiters: Gale {gale:?}, ours {:?}", self.ours.numbers()))
+    }
+
+    fn show(gale: &Semaphore) -> String {
+        format!("a semaphore {} of {}", gale.count, gale.limit)
     }
 }
 
-impl Pair for Both {
-    type Op = Op;
-
-    fn step(&mut self, op: Op) -> Result<Kind, String> {
-        let before = self.ours;
-        let to_do = self.call_of(op);
-        let (expected, kind) = self.expected(to_do);
-        let answer = self.ask_ours(to_do, matches!(kind, Kind::Outside(WAITS)))?;
-        same_answer(&expected, &answer)?;
-        if answer.code < 0 && self.ours != before {
-            return Err(format!("the refusal {} changed a word", answer.code));
-        }
-        self.same_numbers()?;
-        same_queue(&self.gale.wait_q, &self.ours)?;
-        Ok(kind)
-    }
-
-    fn audit(&self) -> bool {
-        self.ours.audit()
-    }
-
-    fn draw(&self, rng: &mut Rng) -> Op {
-        match rng.weighed(&self.weights) {
-            0 => Op::Give,
-            1 => Op::TryTake,
-            2 => Op::Take(draw_thread(&self.gale.wait_q, &self.threads, rng)),
-            _ => Op::Reset,
-        }
-    }
-
-    fn show(&self) -> String {
-        format!("a semaphore {} of {}", self.gale.count, self.gale.limit)
-    }
-
-    fn show_op(&self, op: Op) -> String {
-        match op {
-            Op::Give => "give".to_string(),
-            Op::TryTake => "try_take".to_string(),
-            Op::Take(i) => format!("take_blocking, {}", show_caller(self.threads[i])),
-            Op::Reset => "reset".to_string(),
-        }
-    }
+fn made(count: u32, limit: u32) -> (Semaphore, Memory<3>) {
+    let mut ours = Memory::raw();
+    Sem::ask(&mut ours, ours::Call::Init { count, limit }).unwrap();
+    (init(count, limit).1.unwrap(), ours)
 }
 
-fn small_starts() -> Vec<Both> {
-    let mut starts = Vec::new();
-    for limit in 1..=3 {
-        for count in 0..=limit {
-            starts.extend(three_threads().into_iter().map(|threads| Both::new(count, limit, threads, [1; 4])));
-        }
-    }
-    starts
+fn small_starts() -> Vec<Both<Sem>> {
+    let starts = (1..=3).flat_map(|limit| (0..=limit).map(move |count| (count, limit)));
+    starts.flat_map(|(count, limit)| Both::small(|_| made(count, limit))).collect()
 }
 
-fn random_start(rng: &mut Rng) -> Both {
+fn random_start(rng: &mut Rng) -> Both<Sem> {
     let any = 1 + rng.below(u32::MAX);
     let limit = rng.pick(&[1, 2, 3, 1000, 1 << 31, u32::MAX - 1, u32::MAX, any]);
     let count = rng.pick(&[0, 0, 0, 1, limit / 2, limit - 1, limit]).min(limit);
-    let weights = [rng.below(12), rng.below(4), 1 + rng.below(20), rng.below(8) / 7];
-    Both::new(count, limit, random_threads(rng), weights)
-}
-
-fn edges() -> impl Iterator<Item = u32> + Clone {
-    (0..=5).chain([u32::MAX - 1, u32::MAX])
+    let weights = vec![rng.below(12), rng.below(4), 1 + rng.below(20), rng.below(8) / 7];
+    Both::new(made(count, limit), random_threads(rng), weights)
 }
 
 fn compare_init(tally: &mut Tally) -> Result<(), String> {
     for (count, limit) in edges().flat_map(|count| edges().map(move |limit| (count, limit))) {
-        let raw = Sem::raw();
+        let raw = Memory::raw();
         let mut ours = raw;
-        let code = ours.init(count, limit);
+        let code = Sem::ask(&mut ours, ours::Call::Init { count, limit })?.code;
         let (expected, gale) = init(count, limit);
         let state_is_right = match gale {
             Some(sem) => ours.head == [sem.count, sem.limit, sem.wait_q.len] && ours.guards_stand(),
@@ -194,9 +123,7 @@ fn compare_give_decide(count: u32, limit: u32, has_waiter: bool) -> Result<Kind,
     } else {
         (gale(), Kind::Same)
     };
-    if ours != expected {
-        return Err(format!("  give_decide({count}, {limit}, {has_waiter}): expected {expected}, ours {ours}"));
-    }
+    equal(format!("give_decide({count}, {limit}, {has_waiter})"), expected, ours)?;
     Ok(kind)
 }
 
@@ -207,10 +134,7 @@ fn compare_decide(tally: &mut Tally) -> Result<(), String> {
                 tally.count(compare_give_decide(count, limit, flag)?);
             }
             let ours = unsafe { ours::wq_sem_take_decide(count, flag) };
-            let expected = take_decision(take_decide(count, flag));
-            if ours != expected {
-                return Err(format!("  take_decide({count}, {flag}): Gale {expected}, ours {ours}"));
-            }
+            equal(format!("take_decide({count}, {flag})"), take_decision(take_decide(count, flag)), ours)?;
             tally.count(Kind::Same);
         }
     }
@@ -220,12 +144,9 @@ fn compare_decide(tally: &mut Tally) -> Result<(), String> {
 pub fn compare(report: &mut Report, seed: u64) {
     report.run("semaphore: init", &[], compare_init);
     report.run("semaphore: decide functions", &[MALFORMED, WAITER_AND_COUNT], compare_decide);
-    report.run("semaphore: all sequences of 7", &[AVAILABLE, WAITS], |tally| {
-        let ops = [Op::Give, Op::TryTake, Op::Take(0), Op::Take(1), Op::Take(2), Op::Reset];
-        all_sequences(&small_starts(), &ops, 7, tally)
-    });
+    report.run("semaphore: all sequences of 7", &[AVAILABLE, WAITS], |tally| all_sequences(&small_starts(), 7, tally));
     report.run("semaphore: 100,000 random sequences of 200", &[AVAILABLE, WAITS, FULL], |tally| {
         random_sequences(100_000, 200, &mut Rng::new(seed), random_start, tally)
     });
-    memory::compare::<SemRules, 3>(report, "semaphore: any memory", seed);
+    memory::compare::<Sem, 3>(report, "semaphore: any memory", seed);
 }

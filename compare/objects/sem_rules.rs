@@ -1,26 +1,14 @@
 //! The rules of the semaphore, for any memory contents.
 
-use crate::answer::{Answer, Caller};
 use crate::memory::{
-    any_caller, any_number, any_room, any_state, caller_refusal, id_of, joins, wakes_all, Change, Expected, Rules,
+    any_caller, any_number, any_room, any_state, caller_refusal, joins, wakes_first, wakes_many, Change, Expected,
+    Rules,
 };
-use crate::ours::{Sem, EAGAIN, EBUSY, EINVAL, OK, WAITERS};
+use crate::ours::sem::{Call, Sem, WOKE};
+use crate::ours::{Memory, EAGAIN, EBUSY, EINVAL, OK, WAITERS};
 use crate::rng::Rng;
 
-#[derive(Clone, Copy, Debug)]
-pub enum Call {
-    Init { count: u32, limit: u32 },
-    Give,
-    TryTake,
-    TakeBlocking(Caller, u32),
-    Reset { room: usize },
-}
-
-pub struct SemRules;
-
-impl Rules<3> for SemRules {
-    type Call = Call;
-
+impl Rules<3> for Sem {
     fn is_malformed(&[count, limit, len]: &[u32; 3]) -> bool {
         limit == 0 || count > limit || len as usize > WAITERS || (len > 0 && count > 0)
     }
@@ -29,7 +17,7 @@ impl Rules<3> for SemRules {
         !matches!(call, Call::Init { .. })
     }
 
-    fn calls(rng: &mut Rng) -> Vec<Call> {
+    fn calls(_: &Memory<3>, rng: &mut Rng) -> Vec<Call> {
         vec![
             Call::Init { count: any_number(rng), limit: any_number(rng) },
             Call::Give,
@@ -39,17 +27,13 @@ impl Rules<3> for SemRules {
         ]
     }
 
-    fn expected(memory: &Sem, call: Call) -> Expected<3> {
+    fn expected(memory: &Memory<3>, call: Call) -> Expected<3> {
         let [count, limit, len] = memory.head;
-        let waiting = || &memory.entry[..len as usize];
         let takes = || Expected::done(OK, Change::Head([count - 1, limit, len]));
         match call {
             Call::Init { count, limit } if limit == 0 || count > limit => Expected::refusal(EINVAL),
             Call::Init { count, limit } => Expected::done(OK, Change::Head([count, limit, 0])),
-            Call::Give if len > 0 => Expected {
-                answer: Answer::woke(0, id_of(memory.entry[len as usize - 1]), 0),
-                change: Change::Head([count, limit, len - 1]),
-            },
+            Call::Give if len > 0 => wakes_first(memory, WOKE, OK),
             Call::Give if count < limit => Expected::done(1, Change::Head([count + 1, limit, len])),
             Call::Give => Expected::done(2, Change::Nothing),
             Call::TryTake if count > 0 => takes(),
@@ -57,31 +41,15 @@ impl Rules<3> for SemRules {
             Call::TakeBlocking(caller, state) => match caller_refusal(caller, state) {
                 Some(code) => Expected::refusal(code),
                 None if count > 0 => takes(),
-                None => joins(waiting(), caller),
+                None => joins(memory, caller),
             },
-            Call::Reset { room } => wakes_all(waiting(), EAGAIN, room, [0, limit, 0]),
+            // Where somebody waits, the count is 0 already.
+            Call::Reset { room } if len > 0 => wakes_many(memory, len as usize, EAGAIN, room),
+            Call::Reset { .. } => Expected::done(0, Change::Head([0, limit, 0])),
         }
     }
 
-    fn ask(memory: &mut Sem, call: Call) -> Result<Answer, String> {
-        match call {
-            Call::Init { count, limit } => Ok(Answer::code(memory.init(count, limit))),
-            Call::Give => memory.give(),
-            Call::TryTake => Ok(Answer::code(memory.try_take())),
-            Call::TakeBlocking(caller, state) => Ok(Answer::code(memory.take_blocking(caller, state))),
-            Call::Reset { room } => memory.reset(room),
-        }
-    }
-
-    fn numbers(head: &[u32; 3]) -> Vec<i64> {
-        head.map(i64::from).to_vec()
-    }
-
-    fn ask_numbers(memory: &Sem) -> Vec<i64> {
-        memory.numbers().to_vec()
-    }
-
-    fn audit(memory: &Sem) -> bool {
-        memory.audit()
+    fn expected_numbers(head: &[u32; 3]) -> [i64; 3] {
+        head.map(i64::from)
     }
 }

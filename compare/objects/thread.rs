@@ -1,6 +1,8 @@
 //! Priorities and threads: functions on plain numbers.
 
-use crate::ours::{self, EINVAL, OK};
+use crate::numbers::equal;
+use crate::ours::thread as ours;
+use crate::ours::{EINVAL, OK};
 use crate::report::{Kind, Report, Tally};
 use crate::upstream::thread::{number_of, STATES};
 use gale::priority::{Priority, MAX_PRIORITY};
@@ -12,13 +14,6 @@ const UNKNOWN: &str = "is_blocked of a state above 3: no";
 
 fn values() -> impl Iterator<Item = u32> + Clone {
     (0..=40).chain([u32::MAX])
-}
-
-fn equal(what: String, expected: i32, ours: i32) -> Result<(), String> {
-    if expected == ours {
-        return Ok(());
-    }
-    Err(format!("  {what}: expected {expected}, ours {ours}"))
 }
 
 fn compare_priority(tally: &mut Tally) -> Result<(), String> {

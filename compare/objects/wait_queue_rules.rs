@@ -1,25 +1,14 @@
 //! The rules of the wait queue, for any memory contents.
 
-use crate::answer::{Answer, Caller};
 use crate::memory::{
-    any_caller, any_id, any_room, any_state, caller_refusal, id_of, joins, wakes_all, Change, Expected, Rules,
+    any_caller, any_id, any_room, any_state, caller_refusal, id_of, joins, wakes_first, wakes_many, Change, Expected,
+    Rules,
 };
-use crate::ours::{Queue, ENOENT, OK, WAITERS};
+use crate::ours::wait_queue::{Call, Queue};
+use crate::ours::{Memory, ENOENT, OK, WAITERS};
 use crate::rng::Rng;
 
-#[derive(Clone, Copy, Debug)]
-pub enum Call {
-    Pend(Caller, u32),
-    UnpendFirst(i32),
-    UnpendAll { result: i32, room: usize },
-    Remove(u32),
-}
-
-pub struct QueueRules;
-
-impl Rules<1> for QueueRules {
-    type Call = Call;
-
+impl Rules<1> for Queue {
     fn is_malformed(head: &[u32; 1]) -> bool {
         head[0] as usize > WAITERS
     }
@@ -28,7 +17,7 @@ impl Rules<1> for QueueRules {
         true
     }
 
-    fn calls(rng: &mut Rng) -> Vec<Call> {
+    fn calls(_: &Memory<1>, rng: &mut Rng) -> Vec<Call> {
         vec![
             Call::Pend(any_caller(rng), any_state(rng)),
             Call::UnpendFirst(rng.number() as i32),
@@ -37,44 +26,21 @@ impl Rules<1> for QueueRules {
         ]
     }
 
-    fn expected(memory: &Queue, call: Call) -> Expected<1> {
-        let entries = &memory.entry[..memory.len() as usize];
+    fn expected(memory: &Memory<1>, call: Call) -> Expected<1> {
         match call {
             Call::Pend(caller, state) => {
-                caller_refusal(caller, state).map_or_else(|| joins(entries, caller), Expected::refusal)
+                caller_refusal(caller, state).map_or_else(|| joins(memory, caller), Expected::refusal)
             }
-            Call::UnpendFirst(result) => match entries.last() {
-                None => Expected::done(0, Change::Nothing),
-                Some(&first) => {
-                    Expected { answer: Answer::woke(1, id_of(first), result), change: Change::Head([memory.len() - 1]) }
-                }
-            },
-            Call::UnpendAll { result, room } => wakes_all(entries, result, room, [0]),
-            Call::Remove(id) if entries.iter().any(|&entry| id_of(entry) == id) => {
+            Call::UnpendFirst(result) => wakes_first(memory, 1, result),
+            Call::UnpendAll { result, room } => wakes_many(memory, memory.len() as usize, result, room),
+            Call::Remove(id) if memory.waiting().iter().any(|&entry| id_of(entry) == id) => {
                 Expected::done(OK, Change::Removed(id))
             }
             Call::Remove(_) => Expected::refusal(ENOENT),
         }
     }
 
-    fn ask(memory: &mut Queue, call: Call) -> Result<Answer, String> {
-        match call {
-            Call::Pend(caller, state) => Ok(Answer::code(memory.pend(caller, state))),
-            Call::UnpendFirst(result) => memory.unpend_first(result),
-            Call::UnpendAll { result, room } => memory.unpend_all(result, room),
-            Call::Remove(id) => Ok(Answer::code(memory.remove(id))),
-        }
-    }
-
-    fn numbers(head: &[u32; 1]) -> Vec<i64> {
-        vec![head[0].into(), (head[0] == 0).into()]
-    }
-
-    fn ask_numbers(memory: &Queue) -> Vec<i64> {
-        vec![memory.count().into(), memory.is_empty().into()]
-    }
-
-    fn audit(memory: &Queue) -> bool {
-        memory.audit()
+    fn expected_numbers(head: &[u32; 1]) -> [i64; 2] {
+        [head[0].into(), (head[0] == 0).into()]
     }
 }

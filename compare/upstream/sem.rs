@@ -1,12 +1,13 @@
 //! The semaphore of Gale's Rust.
 
-use super::thread::running;
-use super::wait_queue;
+use super::thread::{running, woke};
+use super::wait_queue::{self, cannot_wait};
+use super::Upstream;
 use crate::answer::{Answer, Caller};
 use gale::error::EBUSY;
 use gale::sem::{GiveDecision, GiveResult, Semaphore, TakeDecision, TakeResult};
 
-#[derive(Clone, Copy)]
+#[derive(Clone, Copy, Debug)]
 pub enum Call {
     Give,
     TryTake,
@@ -15,21 +16,9 @@ pub enum Call {
 }
 
 /// Why upstream's precondition forbids a call.
-pub enum Outside {
+pub enum Apart {
     Available,
-    Waits,
-    Full,
-}
-
-pub fn outside(sem: &Semaphore, call: Call) -> Option<Outside> {
-    let Call::TakeBlocking(caller) = call else { return None };
-    if sem.count > 0 {
-        return Some(Outside::Available);
-    }
-    wait_queue::outside(&sem.wait_q, caller).map(|why| match why {
-        wait_queue::Outside::Waits => Outside::Waits,
-        wait_queue::Outside::Full => Outside::Full,
-    })
+    Queue(wait_queue::Apart),
 }
 
 pub fn init(count: u32, limit: u32) -> (i32, Option<Semaphore>) {
@@ -39,23 +28,40 @@ pub fn init(count: u32, limit: u32) -> (i32, Option<Semaphore>) {
     }
 }
 
-pub fn call(sem: &mut Semaphore, call: Call) -> Answer {
-    match call {
-        Call::Give => match sem.give() {
-            GiveResult::WokeThread(thread) => Answer::woke(0, thread.id.id, thread.return_value),
-            GiveResult::Incremented => Answer::code(1),
-            GiveResult::Saturated => Answer::code(2),
-        },
-        Call::TryTake => Answer::code(match sem.try_take() {
-            TakeResult::Acquired => 0,
-            TakeResult::WouldBlock => EBUSY,
-            TakeResult::Blocked => 1,
-        }),
-        Call::TakeBlocking(caller) => {
-            assert!(sem.take_blocking(running(caller)));
-            Answer::code(1)
+impl Upstream for Semaphore {
+    type Call = Call;
+    type Apart = Apart;
+
+    fn apart(&self, call: Call) -> Option<Apart> {
+        let Call::TakeBlocking(caller) = call else { return None };
+        if self.count > 0 {
+            return Some(Apart::Available);
         }
-        Call::Reset => Answer::code(sem.reset() as i32),
+        cannot_wait(&self.wait_q, caller).map(Apart::Queue)
+    }
+
+    fn call(&mut self, call: Call) -> Answer {
+        match call {
+            Call::Give => match self.give() {
+                GiveResult::WokeThread(thread) => woke(0, &thread),
+                GiveResult::Incremented => Answer::code(1),
+                GiveResult::Saturated => Answer::code(2),
+            },
+            Call::TryTake => Answer::code(match self.try_take() {
+                TakeResult::Acquired => 0,
+                TakeResult::WouldBlock => EBUSY,
+                TakeResult::Blocked => 1,
+            }),
+            Call::TakeBlocking(caller) => {
+                assert!(self.take_blocking(running(caller)));
+                Answer::code(1)
+            }
+            Call::Reset => Answer::code(self.reset() as i32),
+        }
+    }
+
+    fn copy(&self) -> Self {
+        Semaphore { wait_q: self.wait_q.copy(), ..*self }
     }
 }
 

@@ -1,6 +1,6 @@
 //! Threads of Gale's Rust.
 
-use crate::answer::Caller;
+use crate::answer::{Answer, Caller};
 use gale::priority::Priority;
 use gale::thread::{Thread, ThreadState};
 
@@ -22,4 +22,13 @@ pub fn blocked(caller: Caller) -> Thread {
     let mut thread = running(caller);
     thread.block();
     thread
+}
+
+/// Who was woken, and with which result.
+pub fn told(thread: &Thread) -> (u32, i32) {
+    (thread.id.id, thread.return_value)
+}
+
+pub fn woke(code: i32, thread: &Thread) -> Answer {
+    Answer { code, woken: vec![told(thread)] }
 }
