@@ -1,21 +1,16 @@
-/* The semaphore of waitqueue.h in C, under the header's own names, so that ours and this one are called by the same
- * driver. With CHECKED 1 it makes the refusals that the header lists, in that order; with CHECKED 0 none.
+/* The objects of waitqueue.h in C, under the header's own names, so that ours and these are called by the same driver.
+ * With CHECKED 1 they make the refusals that the header lists, in that order; with CHECKED 0 none.
  *
  * SPDX-License-Identifier: Apache-2.0
  */
 #include <stddef.h>
+#include "c_common.h"
 #include "waitqueue.h"
 
-enum { COUNT, LIMIT, LEN };
-
-static bool malformed(const uint32_t *head)
-{
-    return head[LIMIT] == 0 || head[COUNT] > head[LIMIT] || (head[LEN] > 0 && head[COUNT] > 0) ||
-           head[LEN] > WQ_MAX_WAITERS;
-}
+/* ---- Queue ------------------------------------------------------------------------------------ */
 
 /* Without an early exit, so that the compiler can compare several entries at a time. */
-static bool holds(const uint64_t *entry, size_t len, uint32_t id)
+static inline bool holds(const uint64_t *entry, size_t len, uint32_t id)
 {
     uint32_t found = 0;
     for (size_t i = 0; i < len; i++)
@@ -24,7 +19,7 @@ static bool holds(const uint64_t *entry, size_t len, uint32_t id)
 }
 
 /* Those that are to be woken before the new one move up by one. */
-static void insert(uint64_t *entry, size_t len, uint32_t id, uint32_t priority)
+static inline void insert(uint64_t *entry, size_t len, uint32_t id, uint32_t priority)
 {
     uint64_t greatest = (uint64_t)priority << 32 | UINT32_MAX;
     size_t i = len;
@@ -35,23 +30,58 @@ static void insert(uint64_t *entry, size_t len, uint32_t id, uint32_t priority)
     entry[i] = (uint64_t)priority << 32 | id;
 }
 
+static ALWAYS_INLINE int32_t pend(uint32_t *len, uint64_t *entry, uint32_t id, uint32_t priority)
+{
+    if (CHECKED) {
+        if (holds(entry, *len, id))
+            return WQ_EBUSY;
+        if (*len == WQ_MAX_WAITERS)
+            return WQ_ENOMEM;
+    }
+    insert(entry, *len, id, priority);
+    (*len)++;
+    return WQ_WAITS;
+}
+
+/* Somebody waits. The answer is its id, which is also how a thread is handed out that is woken with result 0. */
+static inline uint32_t unpend_first(uint32_t *len, const uint64_t *entry)
+{
+    (*len)--;
+    return (uint32_t)entry[*len];
+}
+
+static inline void hand_out(const uint64_t *entry, uint32_t len, int32_t result, wq_woken *out)
+{
+    for (uint32_t i = 0; i < len; i++)
+        out[i] = (uint64_t)(uint32_t)result << 32 | (uint32_t)entry[len - 1 - i];
+}
+
+/* ---- Counting semaphore ----------------------------------------------------------------------- */
+
+enum { COUNT, LIMIT, SEM_LEN };
+
+static inline bool sem_malformed(const uint32_t *head)
+{
+    return head[LIMIT] == 0 || head[COUNT] > head[LIMIT] || (head[SEM_LEN] > 0 && head[COUNT] > 0) ||
+           head[SEM_LEN] > WQ_MAX_WAITERS;
+}
+
 int32_t wq_sem_init(uint32_t *head, uint32_t count, uint32_t limit)
 {
     if (CHECKED && (limit == 0 || count > limit))
         return WQ_EINVAL;
     head[COUNT] = count;
     head[LIMIT] = limit;
-    head[LEN] = 0;
+    head[SEM_LEN] = 0;
     return WQ_OK;
 }
 
 int32_t wq_sem_give(uint32_t *head, const uint64_t *entry, wq_woken *who)
 {
-    if (CHECKED && malformed(head))
+    if (CHECKED && sem_malformed(head))
         return WQ_EINVAL;
-    if (head[LEN] > 0) {
-        head[LEN]--;
-        *who = (uint32_t)entry[head[LEN]];
+    if (head[SEM_LEN] > 0) {
+        *who = unpend_first(&head[SEM_LEN], entry);
         return WQ_GIVE_WOKE;
     }
     if (head[COUNT] < head[LIMIT]) {
@@ -63,37 +93,134 @@ int32_t wq_sem_give(uint32_t *head, const uint64_t *entry, wq_woken *who)
 
 int32_t wq_sem_take_blocking(uint32_t *head, uint64_t *entry, uint32_t id, uint32_t priority, uint32_t state)
 {
-    if (CHECKED) {
-        if (malformed(head) || priority >= WQ_MAX_PRIORITY)
-            return WQ_EINVAL;
-        if (state == WQ_BLOCKED)
-            return WQ_EBUSY;
-        if (state != WQ_RUNNING)
-            return WQ_EINVAL;
-    }
+    REFUSE_CALLER(sem_malformed(head), priority, state);
     if (head[COUNT] > 0) {
         head[COUNT]--;
         return WQ_OK;
     }
-    if (CHECKED) {
-        if (holds(entry, head[LEN], id))
-            return WQ_EBUSY;
-        if (head[LEN] == WQ_MAX_WAITERS)
-            return WQ_ENOMEM;
-    }
-    insert(entry, head[LEN], id, priority);
-    head[LEN]++;
-    return WQ_WAITS;
+    return pend(&head[SEM_LEN], entry, id, priority);
 }
 
 int32_t wq_sem_reset(uint32_t *head, const uint64_t *entry, wq_woken *out, uint64_t out_len)
 {
-    uint32_t len = head[LEN];
-    if (CHECKED && (malformed(head) || out_len < len))
+    uint32_t len = head[SEM_LEN];
+    if (CHECKED && (sem_malformed(head) || out_len < len))
         return WQ_EINVAL;
-    for (uint32_t i = 0; i < len; i++)
-        out[i] = (uint64_t)(uint32_t)WQ_EAGAIN << 32 | (uint32_t)entry[len - 1 - i];
+    hand_out(entry, len, WQ_EAGAIN, out);
     head[COUNT] = 0;
-    head[LEN] = 0;
+    head[SEM_LEN] = 0;
     return (int32_t)len;
+}
+
+/* ---- Mutex ------------------------------------------------------------------------------------ */
+
+enum { OWNED, OWNER, LOCKS, MUTEX_LEN };
+
+static inline bool mutex_malformed(const uint32_t *head)
+{
+    return (head[OWNED] != 0) != (head[LOCKS] > 0) || (head[MUTEX_LEN] > 0 && head[LOCKS] == 0) ||
+           head[MUTEX_LEN] > WQ_MAX_WAITERS;
+}
+
+/* The owner has one lock: the mutex is the first waiter's now, with that one lock, or free. */
+static inline int32_t hand_over(uint32_t *head, const uint64_t *entry, wq_woken *who)
+{
+    if (head[MUTEX_LEN] > 0) {
+        head[OWNER] = unpend_first(&head[MUTEX_LEN], entry);
+        *who = head[OWNER];
+        return WQ_UNLOCK_TRANSFERRED;
+    }
+    head[OWNED] = 0;
+    head[LOCKS] = 0;
+    return WQ_UNLOCK_UNLOCKED;
+}
+
+int32_t wq_mutex_init(uint32_t *head)
+{
+    head[OWNED] = 0;
+    head[OWNER] = 0;
+    head[LOCKS] = 0;
+    head[MUTEX_LEN] = 0;
+    return WQ_OK;
+}
+
+int32_t wq_mutex_lock_blocking(uint32_t *head, uint64_t *entry, uint32_t id, uint32_t priority, uint32_t state)
+{
+    REFUSE_CALLER(mutex_malformed(head), priority, state);
+    if (head[LOCKS] == 0) {
+        head[OWNED] = 1;
+        head[OWNER] = id;
+        head[LOCKS] = 1;
+        return WQ_OK;
+    }
+    if (head[OWNER] == id) {
+        if (CHECKED && head[LOCKS] == UINT32_MAX)
+            return WQ_EOVERFLOW;
+        head[LOCKS]++;
+        return WQ_OK;
+    }
+    return pend(&head[MUTEX_LEN], entry, id, priority);
+}
+
+int32_t wq_mutex_unlock(uint32_t *head, const uint64_t *entry, uint32_t id, wq_woken *who)
+{
+    if (CHECKED) {
+        if (mutex_malformed(head) || head[LOCKS] == 0)
+            return WQ_EINVAL;
+        if (head[OWNER] != id)
+            return WQ_EPERM;
+    }
+    if (head[LOCKS] > 1) {
+        head[LOCKS]--;
+        return WQ_UNLOCK_RELEASED;
+    }
+    return hand_over(head, entry, who);
+}
+
+/* ---- Condition variable ----------------------------------------------------------------------- */
+
+int32_t wq_condvar_init(uint32_t *head)
+{
+    head[0] = 0;
+    return WQ_OK;
+}
+
+int32_t wq_condvar_signal(uint32_t *head, const uint64_t *entry, wq_woken *who)
+{
+    if (CHECKED && head[0] > WQ_MAX_WAITERS)
+        return WQ_EINVAL;
+    if (head[0] == 0)
+        return 0;
+    *who = unpend_first(&head[0], entry);
+    return 1;
+}
+
+int32_t wq_condvar_broadcast(uint32_t *head, const uint64_t *entry, wq_woken *out, uint64_t out_len)
+{
+    uint32_t len = head[0];
+    if (CHECKED && (len > WQ_MAX_WAITERS || out_len < len))
+        return WQ_EINVAL;
+    hand_out(entry, len, WQ_OK, out);
+    head[0] = 0;
+    return (int32_t)len;
+}
+
+int32_t wq_condvar_wait_blocking(uint32_t *head, uint64_t *entry, uint32_t *mutex_head, const uint64_t *mutex_entry,
+                                 uint32_t id, uint32_t priority, uint32_t state, wq_woken *who)
+{
+    REFUSE_CALLER(mutex_malformed(mutex_head), priority, state);
+    if (CHECKED) {
+        if (mutex_head[LOCKS] == 0)
+            return WQ_EINVAL;
+        if (mutex_head[OWNER] != id)
+            return WQ_EPERM;
+        if (mutex_head[LOCKS] > 1)
+            return WQ_EDEADLK;
+        if (head[0] > WQ_MAX_WAITERS)
+            return WQ_EINVAL;
+    }
+    int32_t result = pend(&head[0], entry, id, priority);
+    if (CHECKED && result != WQ_WAITS)
+        return result;
+    return hand_over(mutex_head, mutex_entry, who); /* which answers 1, that is WQ_WAITS, where it is free */
 }

@@ -4,8 +4,8 @@
  *                   best of SAMPLES samples; the nanoseconds of a step; the check sum of a sample. A step is one of a
  *                   chain of multiplications that runs before and after each sample: in steps, a time does not depend
  *                   on the speed at which the processor's clock runs at the moment.
- *   driver          runs one sample of each case, calls counted() after it, for a profiler that counts inside of the
- *                   functions run_*, and prints: operation, waiters, priorities, operations in a sample.
+ *   driver          runs each case once, calls counted() before and after it, for a profiler that counts from one such
+ *                   call to the next, and prints: operation, waiters, priorities, operations in that run.
  *
  * SPDX-License-Identifier: Apache-2.0
  */
@@ -18,9 +18,11 @@
 
 #define NOINLINE __attribute__((noinline))
 
-enum { OBJECTS = 16, SAMPLE = 16384 };
+enum { OBJECTS = 16, SAMPLE = 16384, REST = WQ_MAX_WAITERS + 2 };
 
 static form_sem sems[OBJECTS];
+static form_mutex mutexes[OBJECTS];
+static form_condvar condvars[OBJECTS];
 static uint8_t priorities[SAMPLE];
 
 static void choose_priorities(const char *how)
@@ -40,14 +42,23 @@ static void expect(bool good, const char *what)
     }
 }
 
-/* ---- Operations: prepare makes the objects, run does the work that is measured ---------------- */
+/* ---- Operations -------------------------------------------------------------------------------
+ *
+ * prepare makes the objects, run does the work that is measured and answers a check sum, and rest adds to it what the
+ * objects hold then, for which it uses them up: in REST calls, or they hold too much. */
+
+/* The threads of one object have ids from here on. */
+static uint32_t first_id(uint32_t object)
+{
+    return object * WQ_MAX_WAITERS;
+}
 
 static void prepare_sems(uint32_t waiters)
 {
     for (uint32_t s = 0; s < OBJECTS; s++) {
         expect(form_sem_init(&sems[s], 0, 1) == WQ_OK, "a semaphore is not made");
         for (uint32_t i = 0; i < waiters; i++) {
-            uint32_t id = s * WQ_MAX_WAITERS + i;
+            uint32_t id = first_id(s) + i;
             expect(form_sem_take(&sems[s], form_thread_new(id), priorities[id]) == WQ_WAITS, "a thread does not wait");
         }
     }
@@ -76,6 +87,137 @@ static NOINLINE uint32_t run_sem_reset(uint32_t times)
 }
 #endif
 
+static uint32_t rest_of_sems(uint32_t sum)
+{
+    form_thread t = form_thread_new(0);
+    for (uint32_t s = 0; s < OBJECTS; s++) {
+        int32_t given = WQ_GIVE_WOKE;
+        for (int i = 0; i < REST && given == WQ_GIVE_WOKE; i++) {
+            given = form_sem_give(&sems[s], &t);
+            sum = mix(sum, form_thread_id(t), given);
+        }
+    }
+    return sum;
+}
+
+/* The first thread of each mutex locks it, and as many as are to wait lock it after that. */
+static void prepare_mutexes(uint32_t waiters)
+{
+    for (uint32_t m = 0; m < OBJECTS; m++) {
+        expect(form_mutex_init(&mutexes[m]) == WQ_OK, "a mutex is not made");
+        for (uint32_t i = 0; i <= waiters; i++) {
+            uint32_t id = first_id(m) + i;
+            expect(form_mutex_lock(&mutexes[m], form_thread_new(id), priorities[id]) == (i == 0 ? WQ_OK : WQ_WAITS),
+                   "a thread neither gets the mutex nor waits");
+        }
+    }
+}
+
+static void prepare_free_mutexes(uint32_t waiters)
+{
+    (void)waiters;
+    for (uint32_t m = 0; m < OBJECTS; m++)
+        expect(form_mutex_init(&mutexes[m]) == WQ_OK, "a mutex is not made");
+}
+
+/* The owner of the first mutex, or, where it is free, who had it last. */
+static form_thread owner;
+
+static NOINLINE uint32_t run_mutex_lock_unlock(uint32_t times)
+{
+    form_thread t = form_thread_new(0), who = t;
+    uint32_t sum = 1;
+    for (uint32_t i = 0; i < times; i++) {
+        int32_t locked = form_mutex_lock(&mutexes[0], t, priorities[i]);
+        int32_t unlocked = form_mutex_unlock(&mutexes[0], t, &who);
+        sum = mix(sum, (uint32_t)locked, unlocked);
+    }
+    owner = t;
+    return sum;
+}
+
+/* The owner unlocks, so that the first waiter has it, and waits for it again. */
+static NOINLINE uint32_t run_mutex_hand_over(uint32_t times)
+{
+    form_thread t = form_thread_new(0), next = t;
+    uint32_t sum = 1;
+    for (uint32_t i = 0; i < times; i++) {
+        int32_t unlocked = form_mutex_unlock(&mutexes[0], t, &next);
+        int32_t locked = form_mutex_lock(&mutexes[0], t, priorities[i]);
+        t = next;
+        sum = mix(sum, form_thread_id(t), 4 * locked + unlocked);
+    }
+    owner = t;
+    return sum;
+}
+
+/* A lock first, since nobody can unlock a free mutex; then unlocks until it is free. */
+static uint32_t rest_of_mutex(uint32_t sum)
+{
+    int32_t unlocked = WQ_UNLOCK_RELEASED;
+    sum = mix(sum, form_thread_id(owner), form_mutex_lock(&mutexes[0], owner, 0));
+    for (int i = 0; i < REST && unlocked != WQ_UNLOCK_UNLOCKED; i++) {
+        unlocked = form_mutex_unlock(&mutexes[0], owner, &owner);
+        expect(unlocked >= 0, "the owner cannot unlock");
+        sum = mix(sum, form_thread_id(owner), unlocked);
+    }
+    return sum;
+}
+
+/* Each condition variable with its mutex, which is free. */
+static void prepare_condvars(uint32_t waiters)
+{
+    prepare_free_mutexes(0);
+    for (uint32_t c = 0; c < OBJECTS; c++) {
+        expect(form_condvar_init(&condvars[c]) == WQ_OK, "a condition variable is not made");
+        for (uint32_t i = 0; i < waiters; i++) {
+            uint32_t id = first_id(c) + i;
+            form_thread t = form_thread_new(id), who = t;
+            expect(form_mutex_lock(&mutexes[c], t, priorities[id]) == WQ_OK, "a thread does not get the mutex");
+            expect(form_condvar_wait(&condvars[c], &mutexes[c], t, priorities[id], &who) == WQ_WAITS,
+                   "a thread does not wait");
+        }
+    }
+}
+
+/* Who is woken locks the mutex, as it has to, and waits again, by which the mutex is free. */
+static NOINLINE uint32_t run_condvar_signal_wait(uint32_t times)
+{
+    form_thread t = form_thread_new(0), who = t;
+    uint32_t sum = 1;
+    for (uint32_t i = 0; i < times; i++) {
+        int32_t woken = form_condvar_signal(&condvars[0], &t);
+        int32_t locked = form_mutex_lock(&mutexes[0], t, priorities[i]);
+        int32_t waits = form_condvar_wait(&condvars[0], &mutexes[0], t, priorities[i], &who);
+        sum = mix(sum, form_thread_id(t), 16 * woken + 4 * locked + waits);
+    }
+    return sum;
+}
+
+#ifdef HAVE_CONDVAR_BROADCAST
+static NOINLINE uint32_t run_condvar_broadcast(uint32_t times)
+{
+    uint32_t sum = 1;
+    for (uint32_t i = 0; i < times; i++)
+        sum = form_condvar_broadcast(&condvars[i], sum);
+    return sum;
+}
+#endif
+
+static uint32_t rest_of_condvars(uint32_t sum)
+{
+    form_thread t = form_thread_new(0);
+    for (uint32_t c = 0; c < OBJECTS; c++) {
+        int32_t woken = 1;
+        for (int i = 0; i < REST && woken == 1; i++) {
+            woken = form_condvar_signal(&condvars[c], &t);
+            sum = mix(sum, form_thread_id(t), woken);
+        }
+    }
+    owner = t;
+    return rest_of_mutex(sum);
+}
+
 /* ---- Cases ------------------------------------------------------------------------------------ */
 
 static const struct bench {
@@ -84,11 +226,12 @@ static const struct bench {
     const char *priorities;
     void (*prepare)(uint32_t waiters);
     uint32_t (*run)(uint32_t times);
+    uint32_t (*rest)(uint32_t sum);
     uint32_t times;  /* how many operations one prepare is good for */
     uint32_t sample; /* how many make a sample, a multiple of that */
 } cases[] = {
 #define SEM_GIVE_TAKE(waiters, priorities) \
-    {"sem give+take", waiters, priorities, prepare_sems, run_sem_give_take, SAMPLE, SAMPLE}
+    {"sem give+take", waiters, priorities, prepare_sems, run_sem_give_take, rest_of_sems, SAMPLE, SAMPLE}
     SEM_GIVE_TAKE(0, "-"),
     SEM_GIVE_TAKE(8, "equal"),
     SEM_GIVE_TAKE(8, "random"),
@@ -97,9 +240,35 @@ static const struct bench {
     SEM_GIVE_TAKE(64, "equal"),
     SEM_GIVE_TAKE(64, "random"),
 #ifdef HAVE_SEM_RESET
-#define SEM_RESET(waiters) {"sem reset", waiters, "equal", prepare_sems, run_sem_reset, OBJECTS, 32 * OBJECTS}
+#define SEM_RESET(waiters) \
+    {"sem reset", waiters, "equal", prepare_sems, run_sem_reset, rest_of_sems, OBJECTS, 32 * OBJECTS}
     SEM_RESET(8),
     SEM_RESET(64),
+#endif
+    {"mutex lock+unlock", 0, "-", prepare_free_mutexes, run_mutex_lock_unlock, rest_of_mutex, SAMPLE, SAMPLE},
+    {"mutex nested", 0, "-", prepare_mutexes, run_mutex_lock_unlock, rest_of_mutex, SAMPLE, SAMPLE},
+#define MUTEX_HAND_OVER(waiters, priorities) \
+    {"mutex hand-over", waiters, priorities, prepare_mutexes, run_mutex_hand_over, rest_of_mutex, SAMPLE, SAMPLE}
+    MUTEX_HAND_OVER(1, "equal"),
+    MUTEX_HAND_OVER(8, "equal"),
+    MUTEX_HAND_OVER(8, "random"),
+    MUTEX_HAND_OVER(40, "equal"),
+    MUTEX_HAND_OVER(40, "random"),
+#define CONDVAR_SIGNAL_WAIT(waiters, priorities)                                            \
+    {"condvar signal+wait", waiters, priorities, prepare_condvars, run_condvar_signal_wait, \
+     rest_of_condvars, SAMPLE, SAMPLE}
+    CONDVAR_SIGNAL_WAIT(1, "equal"),
+    CONDVAR_SIGNAL_WAIT(8, "equal"),
+    CONDVAR_SIGNAL_WAIT(8, "random"),
+    CONDVAR_SIGNAL_WAIT(64, "equal"),
+    CONDVAR_SIGNAL_WAIT(64, "random"),
+#ifdef HAVE_CONDVAR_BROADCAST
+#define CONDVAR_BROADCAST(waiters)                                                    \
+    {"condvar broadcast", waiters, "equal", prepare_condvars, run_condvar_broadcast, \
+     rest_of_condvars, OBJECTS, 32 * OBJECTS}
+    CONDVAR_BROADCAST(1),
+    CONDVAR_BROADCAST(8),
+    CONDVAR_BROADCAST(64),
 #endif
 };
 
@@ -151,8 +320,9 @@ static double sample(const struct bench *b, double reading, uint32_t *sum)
     for (uint32_t done = 0; done < b->sample; done += b->times) {
         b->prepare(b->waiters);
         double start = nanoseconds();
-        *sum += b->run(b->times);
+        uint32_t answers = b->run(b->times);
         total += nanoseconds() - start - reading;
+        *sum += b->rest(answers);
     }
     return total / b->sample;
 }
@@ -178,10 +348,11 @@ NOINLINE void counted(void)
 
 static void count(const struct bench *b)
 {
-    uint32_t sum = 0;
-    sample(b, 0, &sum);
+    b->prepare(b->waiters);
     counted();
-    printf("%s\t%u\t%s\t%u\n", b->operation, b->waiters, b->priorities, b->sample);
+    b->run(b->times);
+    counted();
+    printf("%s\t%u\t%s\t%u\n", b->operation, b->waiters, b->priorities, b->times);
 }
 
 int main(int argc, char **argv)

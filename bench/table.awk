@@ -9,7 +9,7 @@
 BEGIN {
     FS = OFS = "\t"
     noise = 0.02
-    row = "%-14s %7s  %-10s  %-18s %9s %12s %6s %7s  %s\n"
+    row = "%-19s %7s  %-10s  %-18s %9s %12s %6s %7s  %s\n"
 }
 
 { name = $1 FS $2 FS $3 }
@@ -27,7 +27,7 @@ NF == 8 {
         form[++forms] = $7
     }
     if ($6 != sum[name]) {
-        differ = sum_of[name] " and " $7 " differ in what they wake: " $1 ", " $2 " waiters, " $3
+        differ = sum_of[name] " and " $7 " differ in what they answer, wake or hold: " $1 ", " $2 " waiters, " $3
         exit
     }
     keep_three(name SUBSEP $7 SUBSEP $8, $4 + 0)
