@@ -21,8 +21,8 @@ use Rattle.kind.proofs.Memory.{Header, same-header, is-sane, any-waiting, alike
 use Rattle.kind.proofs.Answers.{any-line, length-line, Tells, Lists, silent, unlisted, verdict, call-no, keeps, wakes, wakes-everybody, handed-no, waits-now, unseen, seen, start-short, start-made}
 use Rattle.mutex.specs.Mutex.{Mutex}
 use Rattle.mutex.specs.Post as mutex
-use Rattle.mutex.specs.Post.{unlockOut, releaseOut}
-use Rattle.mutex.proofs.Answers.{release-unlocks}
+use Rattle.mutex.specs.Post.{passOut, releaseOut}
+use Rattle.mutex.proofs.Answers.{release-passes}
 use Rattle.condvar.specs.Condvar.{signal, broadcast, wait, condvar-kind}
 use Rattle.condvar.specs.Post.{layout, signalOut, broadcastOut, waitOut, getOut, hasWaiters, Starts, Waited, SignalDecided, BroadcastDecided, WaitDecided}
 
@@ -157,14 +157,14 @@ module _ (i p st : ℕ) (h e m d : List ℕ) (w : ℕ) where
           record { code = rw (z, u); neither = (v .0, v .1, refl, refl); both = tt }
 
       -- both are done
-      pub wait-both : (c : ℕ) → r ≡ pos c → (m' : List ℕ) (w' : ℕ) (u : ℤ) → Does mutex.layout (unlockOut i) m d u m' d
-          → Told (on mutex.layout (unlockOut i) m d .turn .woken) w w' → Waited i p st h e m d w (pos a) (set h 0 k) e' m' w'
+      pub wait-both : (c : ℕ) → r ≡ pos c → (m' : List ℕ) (w' : ℕ) (u : ℤ) → Does mutex.layout passOut m d u m' d
+          → Told (on mutex.layout passOut m d .turn .woken) w w' → Waited i p st h e m d w (pos a) (set h 0 k) e' m' w'
       wait-both c y m' w' u g t =
-          let o : on mutex.layout (unlockOut i) m d ≡ on mutex.layout (releaseOut i p st) m d = release-unlocks m d i p st a z in
+          let o : on mutex.layout passOut m d ≡ on mutex.layout (releaseOut i p st) m d = release-passes m d i p st a z in
           let f : u ≡ pos a = g .code ∙ ap (λ (x : Out Mutex). x .turn .code) o ∙ z in
           let n : r ≡ waits = joins-waits i p st (getD h 0 0) e c (sym (q .code) ∙ y) (q .code) in
           record {
             code = rw (z, sym (joined .code) ∙ y);
             neither = tt;
-            both = (rw n at joined, rw f at (alike mutex.layout (unlockOut i) (releaseOut i p st) m d u m' d o g), rw o at t);
+            both = (rw n at joined, rw f at (alike mutex.layout passOut (releaseOut i p st) m d u m' d o g), rw o at t);
           }

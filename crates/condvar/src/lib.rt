@@ -2,6 +2,7 @@
 use thread::EAGAIN;
 use thread::EINVAL;
 use thread::OK;
+use wait_queue::WAITS;
 ghost use mathlib.Core.Path.{_≡_};
 ghost use Prim.Native.Nat.{ℕ};
 ghost use mathlib.Core.List.{List};
@@ -11,9 +12,6 @@ ghost use Rattle.wait_queue.specs.Post.{Told, Listed};
 ghost use Rattle.kind.specs.Object.{on, Does, sane, Audited};
 ghost use Rattle.condvar.specs.Condvar.{condvar-kind};
 ghost use Rattle.condvar.specs.Post.{layout, signalOut, broadcastOut, getOut, hasWaiters, Starts, Waited, SignalDecided, BroadcastDecided, WaitDecided};
-
-// What a wait is to do, besides EAGAIN: the caller waits.
-pub const WAITS: i32 = 1;
 
 // Whether the memory is as it should be.
 fn formed(h: &[u32], e: &[u64]) -> bool
@@ -116,7 +114,7 @@ pub fn wait_blocking(
     if joined < 0 {
         return joined;
     }
-    mutex::unlock(mutex_h, mutex_e, id, who);
+    mutex::pass(mutex_h, mutex_e, who);
     given
 }
 

@@ -3,13 +3,13 @@
 use libc::STDOUT_FILENO;
 use sem::INCREMENTED;
 use sem::SATURATED;
-use sem::WAITS;
 use sem::WOKE;
 use thread::EBUSY;
 use thread::EINVAL;
 use thread::OK;
 use thread::RUNNING;
 use wait_queue::MAX_WAITERS;
+use wait_queue::WAITS;
 ghost use Prim.Native.Nat.{_≤_, _<_};
 ghost use lib.ListN.{length};
 ghost use Rattle.thread.specs.Thread.{running};

@@ -4,6 +4,7 @@ use thread::EINVAL;
 use thread::MAX_PRIORITY;
 use thread::OK;
 use thread::RUNNING;
+use wait_queue::WAITS;
 ghost use mathlib.Core.Path.{_≡_};
 ghost use Prim.Native.Nat.{ℕ};
 ghost use mathlib.Core.List.{List};
@@ -12,9 +13,6 @@ ghost use Rattle.wait_queue.specs.Post.{Listed};
 ghost use Rattle.kind.specs.Object.{on, Does, sane, Audited};
 ghost use Rattle.futex.specs.Futex.{Futex, futex-kind};
 ghost use Rattle.futex.specs.Post.{layout, waitOut, wakeOut, setOut, getOut, Starts, WaitDecided, WakeDecided};
-
-// What a wait did, besides EAGAIN: the caller waits now.
-pub const WAITS: i32 = 1;
 
 // Whether the memory is as it should be; every value is.
 fn formed(h: &[u32], e: &[u64]) -> bool

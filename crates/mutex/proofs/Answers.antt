@@ -8,7 +8,7 @@ use native.Mathlib.Omega.{arith}
 use lib.Dec.{ltb, eqb}
 use lib.IntN.{ℤ, pos, negsuc}
 use lib.ListN.{length, getD, set}
-use borrow.Author.Tests.{lt-ltb, le-ltb, ltb-true, ltb-false, eq-eqb, ne-eqb}
+use borrow.Author.Tests.{le-leb, lt-leb, lt-ltb, le-ltb, ltb-true, ltb-false, eq-eqb, ne-eqb}
 use Rattle.seq.specs.List.{any}
 use Rattle.seq.proofs.Order.{clash}
 use Rattle.thread.specs.Code.{ok, eperm, enoent, ebusy, einval, edeadlk, eoverflow}
@@ -20,11 +20,11 @@ use Rattle.wait_queue.specs.Post as queue
 use Rattle.kind.specs.Verdict.{upTo, keep, wake, Verdict, deny, allow}
 use Rattle.kind.specs.Kind.{plain}
 use Rattle.kind.specs.Object as object
-use Rattle.kind.specs.Object.{refused, named, carried, on, Does, sane}
-use Rattle.kind.proofs.Memory.{Header, refuses, alike, is-sane}
-use Rattle.kind.proofs.Answers.{Tells, silent, verdict, call-no, call-barred, call-is, call-denied, keeps, wakes, waits-now, unseen, seen, start-short, start-made}
+use Rattle.kind.specs.Object.{refused, named, carried, on, Does, sized, sane}
+use Rattle.kind.proofs.Memory.{Housed, Header, is-on, alike, refuses, renumbered, turned, is-sane, unsized, sized-words, misnumbered, idle-sane, roomy-sane}
+use Rattle.kind.proofs.Answers.{Tells, silent, verdict, call-no, call-barred, call-is, call-denied, keeps, waits-now, unseen, seen, start-short, start-made}
 use Rattle.mutex.specs.Mutex.{nobody, Mutex, lock, tryLock, unlock, release, formed, maxCount, released, unlocked, transferred, free, taken, counting, passes, mutex-kind}
-use Rattle.mutex.specs.Post.{ownerIn, layout, tryLockOut, unlockOut, lockOut, releaseOut, getOut, isLocked, ownerId, apart, Starts, Audited, unlockDeed, LockDecided, UnlockDecided}
+use Rattle.mutex.specs.Post.{ownerIn, layout, tryLockOut, unlockOut, lockOut, passOut, releaseOut, getOut, isLocked, ownerId, apart, Starts, Audited, unlockDeed, LockDecided, UnlockDecided}
 use Rattle.mutex.proofs.Law.{mk, free-fine, free-empty}
 
 -- on plain numbers
@@ -112,12 +112,8 @@ module _ (h : List ℕ) (k : 4 ≤ length h) where
   fewer : (n : ℕ) → layout .num (set h 3 n) ≡ layout .num h
   fewer n = rw (four h k .is) refl
 
-  passed : (n i : ℕ) → ltb 0 (getD h 0 0) ≡ true → getD h 2 0 ≡ 1 → Header layout h (taken i) n (set (set h 3 n) 1 i)
-  passed n i f c =
-      let v : Four h = four h k in
-      let g : ltb 0 (v .flag) ≡ true = rw (v .is) at f in
-      let d : v .count ≡ 1 = rw (v .is) at c in
-      rw (v .is) (record { num = rw (g, d); len = refl; beside = refl; long = refl })
+  seated : (n i : ℕ) → Header layout h (taken i) n (set (set (set (set h 3 n) 0 1) 1 i) 2 1)
+  seated n i = rw (four h k .is) (record { num = refl; len = refl; beside = refl; long = refl })
 
   new : Header layout h free 0 (set (set (set h 0 0) 2 0) 3 0)
   new = rw (four h k .is) (record { num = refl; len = refl; beside = refl; long = refl })
@@ -216,62 +212,41 @@ module _ (h e : List ℕ) where
         keeps mutex-kind layout plain (named i) unlock h e s 0 refl (counting (getD h 2 0 - 1) (layout .num h)) 0 (set h 2 (getD h 2 0 - 1)) w
         (rw (held-flag (omega arith), eq-eqb (getD h 1 0) i o, lt-ltb 1 (getD h 2 0) k)) (counted h words (getD h 2 0 - 1))
 
-    module _ (i w : ℕ) (o : getD h 1 0 ≡ i) (k : 0 < getD h 2 0) (l : getD h 2 0 ≤ 1) where
-      pub unlock-last : getD h 3 0 ≡ 0 → Unlocks i w unlocked (set (set h 0 0) 2 0) w
-      unlock-last z =
-          keeps mutex-kind layout plain (named i) unlock h e s 0 refl free 1 (set (set h 0 0) 2 0) w
-          (rw (held-flag k, eq-eqb (getD h 1 0) i o, le-ltb 1 (getD h 2 0) l, z)) (freed h words)
+    -- the last unlock is what passes it on
+    pub unlock-passes : (i w : ℕ) → getD h 1 0 ≡ i → 0 < getD h 2 0 → getD h 2 0 ≤ 1 → (r : ℤ) (h' : List ℕ) (w' : ℕ) → Tells layout passOut h e w r h' w' → Unlocks i w r h' w'
+    unlock-passes i w o k l r h' w' t =
+        let u : on layout passOut h e ≡ on layout (unlockOut i) h e =
+        is-on layout passOut h e (is-sane mutex-kind layout h e s .housed)
+        ∙ sym (call-is mutex-kind layout plain (named i) unlock h e s 0 refl (passes (map ident (waiting e (getD h 3 0)))) (rw (held-flag k, eq-eqb (getD h 1 0) i o, le-ltb 1 (getD h 2 0) l)) ∙ alone-too (waiting e (getD h 3 0))) in
+        (alike layout passOut (unlockOut i) h e r h' e u (t .0), rw u at (t .1))
+      where
+        alone-too : (q : List ℕ) → carried (named i) (passes (map ident q)) (layout .num h) q ≡ passOut (layout .num h) q
+        alone-too [] = refl
+        alone-too (x ∷ q) = refl
 
-      -- the new owner is the one that is told
-      hand : (n w' : ℕ) → 0 < n → roomy n e ≡ true → Told (at (unpendFirst ok) n e .woken) w w'
-          → passes (map ident (waiting e n)) ≡ allow (taken (ident w')) (wake (upTo 1) (λ t. ok)) transferred
-      hand zero w' b r t = absurd (omega arith)
-      hand (suc n) w' b r t = let y : w' ≡ woken ok (getD e n 0) = rw r at t in let z : ident w' ≡ ident (getD e n 0) = rw y (omega arith) in rw z
-
-      pub unlock-passed : (r : ℤ) (n w' : ℕ) → 0 < getD h 3 0 → queue.Does (unpendFirst ok) (getD h 3 0) e r n e
-          → Told (at (unpendFirst ok) (getD h 3 0) e .woken) w w' → Unlocks i w transferred (set (set h 3 n) 1 (ident w')) w'
-      unlock-passed r n w' z d t =
-          wakes mutex-kind layout plain (named i) unlock h e s 0 refl (taken (ident w')) ok 2 (set (set h 3 n) 1 (ident w')) r n w w'
-          (rw (held-flag k, eq-eqb (getD h 1 0) i o, le-ltb 1 (getD h 2 0) l) (hand (getD h 3 0) w' z (is-sane mutex-kind layout h e s .housed .room) t)) z d t
-          (passed h words n (ident w') (held-flag k) (omega arith))
-
+    -- lock_blocking
     module _ (i p st : ℕ) where
-      -- lock_blocking
       pub lock-caller : (c : ℕ) → callerCode p st ≡ negsuc c → Does layout (lockOut i p st) h e (negsuc c) h e
       lock-caller c z = refuses layout (lockOut i p st) h e c (call-barred mutex-kind layout plain (object.thread i p st) lock h e s c z)
 
-      pub lock-waits : 0 < getD h 0 0 → (getD h 1 0 ≡ i → ⊥) → (r : ℤ) (m : ℕ) (e' : List ℕ) → queue.Does (pend i p st) (getD h 3 0) e r m e'
-          → Does layout (lockOut i p st) h e r (set h 3 m) e'
-      lock-waits k n r m e' d =
-          waits-now mutex-kind layout plain i p st lock h e tt waits r m e' (omega arith) words fine
-          (rw (lt-ltb 0 (getD h 0 0) k, ne-eqb (getD h 1 0) i n)) d (fewer h words m)
+      pub lock-free : (c : ℕ) → callerCode p st ≡ pos c → getD h 2 0 ≡ 0 → Does layout (lockOut i p st) h e ok (set (set (set h 0 1) 1 i) 2 1) e
+      lock-free c z k =
+          keeps mutex-kind layout plain (object.thread i p st) lock h e s c z (taken i) 0 (set (set (set h 0 1) 1 i) 2 1) 0 (rw (free-flag k)) (seized h words i) .0
 
-      -- what is there, or its own, as without waiting
-      same-free : (c : ℕ) → callerCode p st ≡ pos c → ltb 0 (getD h 0 0) ≡ false → on layout (tryLockOut i) h e ≡ on layout (lockOut i p st) h e
-      same-free c z f =
-          call-is mutex-kind layout plain (named i) tryLock h e s 0 refl (allow (taken i) keep ok) (rw f)
-          ∙ sym (call-is mutex-kind layout plain (object.thread i p st) lock h e s c z (allow (taken i) keep ok) (rw f))
+      module _ (c : ℕ) (z : callerCode p st ≡ pos c) (o : getD h 1 0 ≡ i) where
+        pub lock-full : getD h 2 0 ≡ maxCount → Does layout (lockOut i p st) h e eoverflow h e
+        lock-full k =
+            let y : maxCount ≤ getD h 2 0 = omega arith in
+            refuses layout (lockOut i p st) h e 138
+            (call-denied mutex-kind layout plain (object.thread i p st) lock h e s c z 138
+            (rw (held-flag (omega arith), eq-eqb (getD h 1 0) i o, le-ltb (getD h 2 0) maxCount y)))
 
-      same-own : (c : ℕ) → callerCode p st ≡ pos c → ltb 0 (getD h 0 0) ≡ true → getD h 1 0 ≡ i → on layout (tryLockOut i) h e ≡ on layout (lockOut i p st) h e
-      same-own c z f o = go (ltb (getD h 2 0) maxCount) refl
-        where
-          go : (b : Bool) → ltb (getD h 2 0) maxCount ≡ b → on layout (tryLockOut i) h e ≡ on layout (lockOut i p st) h e
-          go true y =
-              let d : Verdict Mutex (Unit {0}) = allow (counting (suc (getD h 2 0)) (layout .num h)) keep ok in
-              call-is mutex-kind layout plain (named i) tryLock h e s 0 refl d (rw (f, eq-eqb (getD h 1 0) i o, y))
-              ∙ sym (call-is mutex-kind layout plain (object.thread i p st) lock h e s c z d (rw (f, eq-eqb (getD h 1 0) i o, y)))
-          go false y =
-              let d : Verdict Mutex (Unit {0}) = deny eoverflow in
-              call-is mutex-kind layout plain (named i) tryLock h e s 0 refl d (rw (f, eq-eqb (getD h 1 0) i o, y))
-              ∙ sym (call-is mutex-kind layout plain (object.thread i p st) lock h e s c z d (rw (f, eq-eqb (getD h 1 0) i o, y)))
-
-      pub lock-tries : (c : ℕ) → callerCode p st ≡ pos c → (0 < getD h 0 0 → getD h 1 0 ≡ i) → (r : ℤ) (h' : List ℕ) → Does layout (tryLockOut i) h e r h' e
-          → Does layout (lockOut i p st) h e r h' e
-      lock-tries c z o r h' d = alike layout (tryLockOut i) (lockOut i p st) h e r h' e (go (ltb 0 (getD h 0 0)) refl) d
-        where
-          go : (b : Bool) → ltb 0 (getD h 0 0) ≡ b → on layout (tryLockOut i) h e ≡ on layout (lockOut i p st) h e
-          go true f = same-own c z f (o (ltb-true 0 (getD h 0 0) f))
-          go false f = same-free c z f
+        pub lock-again : 0 < getD h 2 0 → getD h 2 0 < maxCount → Does layout (lockOut i p st) h e ok (set h 2 (getD h 2 0 + 1)) e
+        lock-again k m =
+            rw add-one
+            (keeps mutex-kind layout plain (object.thread i p st) lock h e s c z (counting (suc (getD h 2 0)) (layout .num h)) 0 (set h 2 (suc (getD h 2 0))) 0
+            (rw (held-flag k, eq-eqb (getD h 1 0) i o, lt-ltb (getD h 2 0) maxCount m)) (counted h words (suc (getD h 2 0)))
+            .0)
 
       -- release_decide
       pub release-caller : (c : ℕ) → callerCode p st ≡ negsuc c → negsuc c ≡ on layout (releaseOut i p st) h e .turn .code
@@ -306,27 +281,27 @@ module _ (h e : List ℕ) where
               go zero x b = absurd (omega arith)
               go (suc n) x b = rw (last (allow (taken (ident (getD e n 0))) (wake (upTo 1) (λ t. ok)) transferred) (rw x)) refl
 
-      -- what release allows is an unlock
-      same-last : (q : List ℕ) → carried (object.thread i p st) (passes (map ident q)) (layout .num h) q ≡ carried (named i) (passes (map ident q)) (layout .num h) q
+      -- what release allows is the last unlock
+      same-last : (q : List ℕ) → carried (object.thread i p st) (passes (map ident q)) (layout .num h) q ≡ passOut (layout .num h) q
       same-last [] = refl
       same-last (x ∷ q) = refl
 
-      unlocks-too : (c k : ℕ) → callerCode p st ≡ pos c → on layout (releaseOut i p st) h e .turn .code ≡ pos k → on layout (unlockOut i) h e ≡ on layout (releaseOut i p st) h e
-      unlocks-too c k z y = go (ltb 0 (getD h 0 0)) (eqb (getD h 1 0) i) (ltb 1 (getD h 2 0)) refl refl refl
+      passes-too : (c k : ℕ) → callerCode p st ≡ pos c → on layout (releaseOut i p st) h e .turn .code ≡ pos k → on layout passOut h e ≡ on layout (releaseOut i p st) h e
+      passes-too c k z y = go (ltb 0 (getD h 0 0)) (eqb (getD h 1 0) i) (ltb 1 (getD h 2 0)) refl refl refl
         where
-          never : (r : ℕ) → on layout (releaseOut i p st) h e ≡ refused (negsuc r) (layout .num h) (waiting e (getD h 3 0)) → on layout (unlockOut i) h e ≡ on layout (releaseOut i p st) h e
+          never : (r : ℕ) → on layout (releaseOut i p st) h e ≡ refused (negsuc r) (layout .num h) (waiting e (getD h 3 0)) → on layout passOut h e ≡ on layout (releaseOut i p st) h e
           never r x = let u : negsuc r ≡ pos k = rw x at y in absurd (let v : _≡_ {A = ℕ} 0 1 = cc in omega arith)
 
           deed : (d : Verdict Mutex (Unit {0})) → verdict mutex-kind layout plain (object.thread i p st) release h e ≡ d
               → on layout (releaseOut i p st) h e ≡ carried (object.thread i p st) d (layout .num h) (waiting e (getD h 3 0))
           deed d x = call-is mutex-kind layout plain (object.thread i p st) release h e s c z d x
 
-          go : (a b l : Bool) → ltb 0 (getD h 0 0) ≡ a → eqb (getD h 1 0) i ≡ b → ltb 1 (getD h 2 0) ≡ l → on layout (unlockOut i) h e ≡ on layout (releaseOut i p st) h e
+          go : (a b l : Bool) → ltb 0 (getD h 0 0) ≡ a → eqb (getD h 1 0) i ≡ b → ltb 1 (getD h 2 0) ≡ l → on layout passOut h e ≡ on layout (releaseOut i p st) h e
           go false b l f o m = never 21 (deed (deny einval) (rw f))
           go true false l f o m = never 0 (deed (deny eperm) (rw (f, o)))
           go true true true f o m = never 44 (deed (deny edeadlk) (rw (f, o, m)))
           go true true false f o m =
-              call-is mutex-kind layout plain (named i) unlock h e s 0 refl (passes (map ident (waiting e (getD h 3 0)))) (rw (f, o, m))
+              is-on layout passOut h e (is-sane mutex-kind layout h e s .housed)
               ∙ sym (deed (passes (map ident (waiting e (getD h 3 0)))) (rw (f, o, m)) ∙ same-last (waiting e (getD h 3 0)))
 
     -- the numbers
@@ -370,17 +345,90 @@ module _ (h e : List ℕ) where
         go true = refl
         go false = refl
 
--- a release that is allowed is an unlock
-pub release-unlocks : (h e : List ℕ) (i p st k : ℕ) → on layout (releaseOut i p st) h e .turn .code ≡ pos k → on layout (unlockOut i) h e ≡ on layout (releaseOut i p st) h e
-release-unlocks h e i p st k y = go (sane mutex-kind layout h e) (callerCode p st) refl refl
-  where
-    never : (r : ℕ) → r ≡ r → on layout (releaseOut i p st) h e .turn .code ≡ negsuc r → on layout (unlockOut i) h e ≡ on layout (releaseOut i p st) h e
-    never r q x = let u : negsuc r ≡ pos k = sym x ∙ y in absurd (let v : _≡_ {A = ℕ} 0 1 = cc in omega arith)
+-- what the words show one by one
+module _ (h e : List ℕ) where
+  pub small-no : sized 4 h e ≡ false → sane mutex-kind layout h e ≡ false
+  small-no z = unsized mutex-kind layout h e z
 
-    go : (b : Bool) (z : ℤ) → sane mutex-kind layout h e ≡ b → callerCode p st ≡ z → on layout (unlockOut i) h e ≡ on layout (releaseOut i p st) h e
-    go false z s c = never 21 refl (sym (release-no h e i p st s))
-    go true (negsuc r) s c = never r refl (sym (release-caller h e s i p st r c))
-    go true (pos n) s c = unlocks-too h e s i p st n k c y
+  module _ (z : sized 4 h e ≡ true) where
+    pub its-words : 4 ≤ length h
+    its-words = sized-words mutex-kind layout h e z
+
+    -- an owner without a lock, a lock without an owner, somebody who waits for a free one
+    pub lockless-no : 0 < getD h 0 0 → getD h 2 0 ≡ 0 → sane mutex-kind layout h e ≡ false
+    lockless-no f c = misnumbered mutex-kind layout h e z (rw (lt-ltb 0 (getD h 0 0) f, c) refl)
+
+    pub ownerless-no : getD h 0 0 ≡ 0 → 0 < getD h 2 0 → sane mutex-kind layout h e ≡ false
+    ownerless-no f c = misnumbered mutex-kind layout h e z (rw (f, ne-eqb (getD h 2 0) 0 (λ y. absurd (omega arith))) refl)
+
+    pub awaited-no : getD h 0 0 ≡ 0 → getD h 2 0 ≡ 0 → 0 < getD h 3 0 → sane mutex-kind layout h e ≡ false
+    awaited-no f c n = misnumbered mutex-kind layout h e z (rw (f, c, lt-ltb 0 (getD h 3 0) n) refl)
+
+    pub crowded-no : roomy (getD h 3 0) e ≡ false → sane mutex-kind layout h e ≡ false
+    crowded-no r = rw (le-leb 4 (length h) its-words, r)
+
+    pub free-yes : getD h 0 0 ≡ 0 → getD h 2 0 ≡ 0 → getD h 3 0 ≡ 0 → sane mutex-kind layout h e ≡ true
+    free-yes f c n = idle-sane mutex-kind layout h e z n (rw (f, c) refl)
+
+    pub held-yes : 0 < getD h 0 0 → 0 < getD h 2 0 → roomy (getD h 3 0) e ≡ true → sane mutex-kind layout h e ≡ true
+    held-yes f c r = roomy-sane mutex-kind layout h e z r (rw (lt-ltb 0 (getD h 0 0) f) (lt-ltb 0 (getD h 2 0) c))
+
+    -- the thread waits, whatever the queue says
+    pub lock-waits : (i p st : ℕ) → 0 < getD h 0 0 → 0 < getD h 2 0 → (getD h 1 0 ≡ i → ⊥) → (r : ℤ) (m : ℕ) (e' : List ℕ) → queue.Does (pend i p st) (getD h 3 0) e r m e'
+        → Does layout (lockOut i p st) h e r (set h 3 m) e'
+    lock-waits i p st f c n r m e' d =
+        waits-now mutex-kind layout plain i p st lock h e tt waits r m e' (omega arith) its-words (rw (lt-ltb 0 (getD h 0 0) f) (lt-ltb 0 (getD h 2 0) c))
+        (rw (lt-ltb 0 (getD h 0 0) f, ne-eqb (getD h 1 0) i n)) d (fewer h its-words m)
+
+-- the last unlock alone
+module _ (h e : List ℕ) (w : ℕ) where
+  abbrev pub Passes : ℤ → List ℕ → ℕ → Type 0
+  Passes = Tells layout passOut h e w
+
+  pub pass-short : length h < 4 → Passes einval h w
+  pass-short k = silent layout passOut h e 21 (rw (lt-leb 4 (length h) k)) w
+
+  module _ (k : 4 ≤ length h) where
+    pub pass-no : roomy (getD h 3 0) e ≡ false → Passes einval h w
+    pass-no r = silent layout passOut h e 21 (rw (le-leb 4 (length h) k, r)) w
+
+    module _ (r : roomy (getD h 3 0) e ≡ true) where
+      there : Housed layout h e
+      there = record { words = k; room = r }
+
+      pub pass-free : getD h 3 0 ≡ 0 → Passes unlocked (set (set h 0 0) 2 0) w
+      pass-free z =
+          let o : passOut (layout .num h) (waiting e (getD h 3 0)) ≡ record { num = free; turn = record { code = unlocked; queue = waiting e (getD h 3 0); woken = [] } } = rw z in
+          (renumbered layout passOut h e 1 free (set (set h 0 0) 2 0) there o (freed h k), rw (is-on layout passOut h e there ∙ o) refl)
+
+      pub pass-first : (a : ℤ) (n w' : ℕ) → 0 < getD h 3 0 → queue.Does (unpendFirst ok) (getD h 3 0) e a n e
+          → Told (at (unpendFirst ok) (getD h 3 0) e .woken) w w' → Passes transferred (set (set (set (set h 3 n) 0 1) 1 (ident w')) 2 1) w'
+      pass-first a n w' z d t =
+          let o = first (getD h 3 0) w' z r t in (
+            turned layout passOut h e (unpendFirst ok) (taken (ident w')) 2 a n (set (set (set (set h 3 n) 0 1) 1 (ident w')) 2 1) e there o d (seated h k n (ident w')),
+            rw (is-on layout passOut h e there ∙ o) t,
+          )
+        where
+          first : (m w' : ℕ) → 0 < m → roomy m e ≡ true → Told (at (unpendFirst ok) m e .woken) w w'
+              → passOut (layout .num h) (waiting e m)
+              ≡ record { num = taken (ident w'); turn = record { code = transferred; queue = at (unpendFirst ok) m e .queue; woken = at (unpendFirst ok) m e .woken } }
+          first zero w' b q t = absurd (omega arith)
+          first (suc m) w' b q t =
+              let y : w' ≡ woken ok (getD e m 0) = rw q at t in
+              let x : ident w' ≡ ident (getD e m 0) = rw y (omega arith) in
+              rw (q, x)
+
+-- a release that is allowed is the last unlock
+pub release-passes : (h e : List ℕ) (i p st k : ℕ) → on layout (releaseOut i p st) h e .turn .code ≡ pos k → on layout passOut h e ≡ on layout (releaseOut i p st) h e
+release-passes h e i p st k y = go (sane mutex-kind layout h e) (callerCode p st) refl refl
+  where
+    never : (r : ℕ) → on layout (releaseOut i p st) h e .turn .code ≡ negsuc r → on layout passOut h e ≡ on layout (releaseOut i p st) h e
+    never r x = let u : negsuc r ≡ pos k = sym x ∙ y in absurd (let v : _≡_ {A = ℕ} 0 1 = cc in omega arith)
+
+    go : (b : Bool) (z : ℤ) → sane mutex-kind layout h e ≡ b → callerCode p st ≡ z → on layout passOut h e ≡ on layout (releaseOut i p st) h e
+    go false z s c = never 21 (sym (release-no h e i p st s))
+    go true (negsuc r) s c = never r (sym (release-caller h e s i p st r c))
+    go true (pos n) s c = passes-too h e s i p st n k c y
 
 -- init
 module _ (h : List ℕ) where

@@ -2,19 +2,19 @@
 -- does.
 use mathlib.Core.Path.{_≡_}
 use mathlib.Core.Bool.{Bool, true, false, cond}
-use mathlib.Core.List.{List}
+use mathlib.Core.List.{List, map}
 use Prim.Native.Nat.{ℕ}
 use lib.Dec.{eqb, ltb}
 use lib.IntN.{ℤ, pos}
 use lib.ListN.{getD}
 use Rattle.seq.specs.List.{any}
 use Rattle.thread.specs.Code.{enoent}
-use Rattle.wait_queue.specs.Queue.{waiting, holds, Well}
+use Rattle.wait_queue.specs.Queue.{ident, waiting, holds, Well}
 use Rattle.kind.specs.Verdict.{keep, park, wake, Verdict, deny, allow}
 use Rattle.kind.specs.Kind.{judge, plain}
 use Rattle.kind.specs.Object as object
-use Rattle.kind.specs.Object.{Out, named, call, looks, Layout, Started, sane}
-use Rattle.mutex.specs.Mutex.{Owner, nobody, thread, Mutex, Call, lock, tryLock, unlock, release, held, formed, free, unlocked, mutex-kind}
+use Rattle.kind.specs.Object.{Out, named, anyone, carried, call, looks, Layout, Started, sane}
+use Rattle.mutex.specs.Mutex.{Owner, nobody, thread, Mutex, Call, lock, tryLock, unlock, release, held, formed, free, unlocked, passes, mutex-kind}
 
 abbrev pub ownerIn : ℕ → ℕ → Owner
 ownerIn flag i = cond (ltb 0 flag) (thread i) nobody
@@ -35,6 +35,10 @@ lockOut i p st = call mutex-kind plain (object.thread i p st) lock
 
 abbrev pub releaseOut : ℕ → ℕ → ℕ → Mutex → List ℕ → Out Mutex
 releaseOut i p st = call mutex-kind plain (object.thread i p st) release
+
+-- the last unlock alone, whoever calls and whatever the numbers are
+abbrev pub passOut : Mutex → List ℕ → Out Mutex
+passOut m q = carried anyone (passes (map ident q)) m q
 
 -- a number of a mutex that is as it should be
 abbrev pub getOut : (Mutex → List ℕ → ℤ) → Mutex → List ℕ → Out Mutex

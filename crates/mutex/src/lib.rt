@@ -8,14 +8,15 @@ use thread::MAX_PRIORITY;
 use thread::OK;
 use thread::RUNNING;
 ghost use mathlib.Core.Path.{_≡_};
-ghost use Prim.Native.Nat.{ℕ};
+ghost use mathlib.Core.Bool.{true};
+ghost use Prim.Native.Nat.{ℕ, _<_};
 ghost use mathlib.Core.List.{List};
 ghost use lib.IntN.{pos};
-ghost use lib.ListN.{length};
+ghost use lib.ListN.{length, getD};
 ghost use Rattle.wait_queue.specs.Post.{Told};
-ghost use Rattle.kind.specs.Object.{on, Does, sane};
+ghost use Rattle.kind.specs.Object.{on, Does, sized, sane};
 ghost use Rattle.mutex.specs.Mutex.{Mutex, formed as formedMutex, mutex-kind};
-ghost use Rattle.mutex.specs.Post.{ownerIn, layout, tryLockOut, unlockOut, lockOut, releaseOut, getOut, isLocked, ownerId, Starts, Audited, LockDecided, UnlockDecided};
+ghost use Rattle.mutex.specs.Post.{ownerIn, layout, tryLockOut, unlockOut, lockOut, passOut, releaseOut, getOut, isLocked, ownerId, Starts, Audited, LockDecided, UnlockDecided};
 
 // What an unlock did: Gale's UnlockResult.
 pub const RELEASED: i32 = 0;
@@ -144,17 +145,16 @@ pub fn try_lock(h: &mut [u32], e: &[u64], id: u32) -> i32
     OK
 }
 
-// OK: the thread owns it, with one lock more; WAITS: it waits, behind all of equal or higher priority.
-pub fn lock_blocking(h: &mut [u32], e: &mut [u64], id: u32, priority: u32, state: u32) -> i32
-    ensures { λ r. ⌜ Does layout (lockOut id priority state) (now (h .entry)) (now (e .entry)) r (now (h .exit)) (now (e .exit)) ⌝ }
+// A mutex with no lock: free, or malformed.
+fn seize(h: &mut [u32], e: &[u64], id: u32, priority: u32, state: u32) -> i32
+    requires { ⌜ (sized 4 (now h) (now e) ≡ true) × (getD (now h) 2 0 ≡ 0) ⌝ }
+    ensures { λ r. ⌜ Does layout (lockOut id priority state) (now (h .entry)) (now (e .entry)) r (now (h .exit)) (now (e .entry)) ⌝ }
 {
-    if !formed(h, e) {
+    if 0 < h[0] {
         return EINVAL;
     }
-    if 0 < h[0] {
-        if h[1] != id {
-            return wait_queue::pend(&mut h[3], e, id, priority, state);
-        }
+    if 0 < h[3] {
+        return EINVAL;
     }
     if state != RUNNING {
         return wait_queue::caller(priority, state);
@@ -162,7 +162,75 @@ pub fn lock_blocking(h: &mut [u32], e: &mut [u64], id: u32, priority: u32, state
     if MAX_PRIORITY <= priority {
         return EINVAL;
     }
-    try_lock(h, e, id)
+    h[0] = 1;
+    h[1] = id;
+    h[2] = 1;
+    OK
+}
+
+// The thread's own mutex.
+fn nest(h: &mut [u32], e: &[u64], id: u32, priority: u32, state: u32) -> i32
+    requires { ⌜ (sized 4 (now h) (now e) ≡ true) × (0 < getD (now h) 0 0) × (0 < getD (now h) 2 0) × (getD (now h) 1 0 ≡ id) ⌝ }
+    ensures { λ r. ⌜ Does layout (lockOut id priority state) (now (h .entry)) (now (e .entry)) r (now (h .exit)) (now (e .entry)) ⌝ }
+{
+    if !wait_queue::fits(h[3], e) {
+        return EINVAL;
+    }
+    if state != RUNNING {
+        return wait_queue::caller(priority, state);
+    }
+    if MAX_PRIORITY <= priority {
+        return EINVAL;
+    }
+    let depth = h[2];
+    if depth == 4294967295 {
+        return EOVERFLOW;
+    }
+    h[2] = depth + 1;
+    OK
+}
+
+// OK: the thread owns it, with one lock more; WAITS: it waits, behind all of equal or higher priority.
+pub fn lock_blocking(h: &mut [u32], e: &mut [u64], id: u32, priority: u32, state: u32) -> i32
+    ensures { λ r. ⌜ Does layout (lockOut id priority state) (now (h .entry)) (now (e .entry)) r (now (h .exit)) (now (e .exit)) ⌝ }
+{
+    if !kind::housed(h, 4, e) {
+        return EINVAL;
+    }
+    if h[2] == 0 {
+        return seize(h, e, id, priority, state);
+    }
+    if h[0] == 0 {
+        return EINVAL;
+    }
+    if h[1] != id {
+        return wait_queue::pend(&mut h[3], e, id, priority, state);
+    }
+    nest(h, e, id, priority, state)
+}
+
+// The last unlock, whoever calls and whatever the numbers are: UNLOCKED; TRANSFERRED: who is to be made ready, with 0, owns it now.
+pub fn pass(h: &mut [u32], e: &[u64], who: &mut u64) -> i32
+    ensures { λ r. ⌜ Does layout passOut (now (h .entry)) (now (e .entry)) r (now (h .exit)) (now (e .entry)) ⌝ }
+    ensures { λ r. ⌜ Told (on layout passOut (now (h .entry)) (now (e .entry)) .turn .woken) (now (who .entry)) (now (who .exit)) ⌝ }
+{
+    if h.len() < 4 {
+        return EINVAL;
+    }
+    let waits = h[3];
+    if !wait_queue::fits(waits, e) {
+        return EINVAL;
+    }
+    if waits == 0 {
+        h[0] = 0;
+        h[2] = 0;
+        return UNLOCKED;
+    }
+    wait_queue::unpend_first(&mut h[3], e, OK, who);
+    h[0] = 1;
+    h[1] = (*who % 4294967296) as u32;
+    h[2] = 1;
+    TRANSFERRED
 }
 
 // RELEASED: the thread owns it still; UNLOCKED: it is free; TRANSFERRED: who is to be made ready, with 0, owns it now; EPERM: another owns it.
@@ -184,14 +252,7 @@ pub fn unlock(h: &mut [u32], e: &[u64], id: u32, who: &mut u64) -> i32
         h[2] = held - 1;
         return RELEASED;
     }
-    if h[3] == 0 {
-        h[0] = 0;
-        h[2] = 0;
-        return UNLOCKED;
-    }
-    wait_queue::unpend_first(&mut h[3], e, OK, who);
-    h[1] = (*who % 4294967296) as u32;
-    TRANSFERRED
+    pass(h, e, who)
 }
 
 // What a wait at a condition variable would do to the mutex: UNLOCKED, TRANSFERRED; EPERM, EDEADLK: the thread holds it more than once.

@@ -5,6 +5,7 @@ use thread::EINVAL;
 use thread::MAX_PRIORITY;
 use thread::OK;
 use thread::RUNNING;
+use wait_queue::WAITS;
 ghost use mathlib.Core.Path.{_≡_};
 ghost use Prim.Native.Nat.{ℕ};
 ghost use mathlib.Core.List.{List};
@@ -20,9 +21,6 @@ pub const WOKE: i32 = 0;
 pub const INCREMENTED: i32 = 1;
 
 pub const SATURATED: i32 = 2;
-
-// What a take did, besides OK and EBUSY: the caller waits now.
-pub const WAITS: i32 = 1;
 
 // Whether the numbers are as they should be where somebody waits, or nobody.
 fn numbers(count: u32, limit: u32, waits: bool) -> bool

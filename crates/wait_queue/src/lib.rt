@@ -25,6 +25,9 @@ ghost use Rattle.wait_queue.specs.Parts.{sound, Searched, Shifted, Stopp
 // How many threads can wait on one object.
 pub const MAX_WAITERS: usize = 64;
 
+// The answer of a caller that waits now, at every object.
+pub const WAITS: i32 = 1;
+
 fn limit() -> usize
     ensures { λ r. ⌜ r ≡ maxWaiters ⌝ }
 {
@@ -234,7 +237,7 @@ fn put(e: &mut [u64], n: usize, id: u32, priority: u32)
     e[k] = p * 4294967296 + id as u64;
 }
 
-// 1: the thread waits, behind all of equal or higher priority.
+// WAITS: the thread waits, behind all of equal or higher priority.
 pub fn pend(len: &mut u32, e: &mut [u64], id: u32, priority: u32, state: u32) -> i32
     ensures { λ r. ⌜ Does (pendTurn id priority state) (now (len .entry)) (now (e .entry)) r (now (len .exit)) (now (e .exit)) ⌝ }
 {
@@ -248,6 +251,11 @@ pub fn pend(len: &mut u32, e: &mut [u64], id: u32, priority: u32, state: u32) ->
     if MAX_PRIORITY <= priority {
         return EINVAL;
     }
+    if n < 1 {
+        e[0] = priority as u64 * 4294967296 + id as u64;
+        *len = 1;
+        return WAITS;
+    }
     let m = seq::wide(n);
     if has(e, m, id as u64) {
         return EBUSY;
@@ -257,7 +265,7 @@ pub fn pend(len: &mut u32, e: &mut [u64], id: u32, priority: u32, state: u32) ->
     }
     put(e, m, id, priority);
     *len = n + 1;
-    1
+    WAITS
 }
 
 // 1: the first is woken, with the result; 0: nobody waits.

@@ -3,15 +3,13 @@ use mathlib.Core.Path.{sym, _∙_}
 use native.Mathlib.Omega.{arith}
 use borrow.Author.Tests.{not-true, not-false}
 use Rattle.seq.proofs.Integers.{answered}
-use Rattle.wait_queue.proofs.Answers.{idle-caller, low-caller, right-caller}
-use mathlib.Core.Logic.{⊎-elim}
-use Rattle.mutex.proofs.Answers.{words, lock-no, lock-caller, lock-waits, lock-tries}
+use Rattle.mutex.proofs.Answers.{its-words, small-no, lock-no, ownerless-no, lock-waits}
 use borrow.Author.Needs.{needs}
 use Rattle.mutex.proofs.lock_blocking.Statement.{statement}
 use Rattle.mutex.proofs.lock_blocking.Tie as tie
 
-formed-requires : tie.Need-formed-requires
-formed-requires c κs = search needs
+housed-requires : tie.Need-housed-requires
+housed-requires c κs = search needs
 
 same-length : tie.Need-same-length
 same-length c = search needs
@@ -20,19 +18,13 @@ same-length-2 : tie.Need-same-length-2
 same-length-2 c = search needs
 
 returns : tie.Need-returns
-returns c = let a = c .before .before .before .before .before .before .args in lock-no (a .h .now) (a .e .now) (a .id) (a .priority) (a .state) (sym (c .before .formed .ensures) ∙ not-true _ (c .if1 .taken))
+returns c = let a = c .before .before .before .before .before .before .args in lock-no (a .h .now) (a .e .now) (a .id) (a .priority) (a .state) (small-no (a .h .now) (a .e .now) (sym (c .before .housed .ensures) ∙ not-true _ (c .if1 .taken)))
 
 slice-read-if2 : tie.Need-slice-read-if2
-slice-read-if2 c = let a = c .before .before .before .before .before .before .before .args in omega (arith, words (a .h .now) (a .e .now) (sym (c .before .before .formed .ensures) ∙ not-false _ (c .before .if1 .left)))
+slice-read-if2 c = let a = c .before .before .before .before .before .before .before .args in omega (arith, its-words (a .h .now) (a .e .now) (sym (c .before .before .housed .ensures) ∙ not-false _ (c .before .if1 .left)))
 
-slice-read-if3 : tie.Need-slice-read-if3
-slice-read-if3 c = let a = c .before .before .before .before .before .before .before .before .before .args in omega (arith, words (a .h .now) (a .e .now) (sym (c .before .before .before .before .formed .ensures) ∙ not-false _ (c .before .before .before .if1 .left)))
-
-index-1-pend : tie.Need-index-1-pend
-index-1-pend c = let a = c .before .before .before .before .before .before .before .before .before .before .args in omega (arith, words (a .h .now) (a .e .now) (sym (c .before .before .before .before .before .formed .ensures) ∙ not-false _ (c .before .before .before .before .if1 .left)))
-
-pend-requires : tie.Need-pend-requires
-pend-requires c κs = search needs
+seize-requires : tie.Need-seize-requires
+seize-requires c κs = let a = c .before .before .before .before .before .before .before .before .before .before .args in ((sym (c .before .before .before .before .before .housed .ensures) ∙ not-false _ (c .before .before .before .before .if1 .left)), omega arith)
 
 same-length-3 : tie.Need-same-length-3
 same-length-3 c = search needs
@@ -41,10 +33,10 @@ same-length-4 : tie.Need-same-length-4
 same-length-4 c = search needs
 
 returns-2 : tie.Need-returns-2
-returns-2 c = let a = c .before .before .before .before .before .before .before .before .before .before .before .before .before .before .before .args in let u = c .before .before .pend in rw (answered {z = u .result} (u .ok)) (lock-waits (a .h .now) (a .e .now) (sym (c .before .before .before .before .before .before .before .before .before .before .formed .ensures) ∙ not-false _ (c .before .before .before .before .before .before .before .before .before .if1 .left)) (a .id) (a .priority) (a .state) (omega arith) (c .before .before .before .before .before .if3 .taken) (u .result) (u .last .0) (u .last .1 .0) (u .ensures))
+returns-2 c = search needs
 
-caller-requires : tie.Need-caller-requires
-caller-requires c κs = search needs
+slice-read-if3 : tie.Need-slice-read-if3
+slice-read-if3 c = let a = c .before .before .before .before .before .before .before .before .before .args in omega (arith, its-words (a .h .now) (a .e .now) (sym (c .before .before .before .before .housed .ensures) ∙ not-false _ (c .before .before .before .if1 .left)))
 
 same-length-5 : tie.Need-same-length-5
 same-length-5 c = search needs
@@ -53,7 +45,16 @@ same-length-6 : tie.Need-same-length-6
 same-length-6 c = search needs
 
 returns-3 : tie.Need-returns-3
-returns-3 c = let a = c .before .before .before .before .before .before .before .before .before .before .args in let d = c .caller in let z = idle-caller (a .priority) (a .state) (c .before .if4 .taken) in rw (answered {z = d .result} (d .ok), d .ensures, z) (lock-caller (a .h .now) (a .e .now) (sym (c .before .before .before .before .before .formed .ensures) ∙ not-false _ (c .before .before .before .before .if1 .left)) (a .id) (a .priority) (a .state) _ z)
+returns-3 c = let a = c .before .before .before .before .before .before .before .before .before .before .args in lock-no (a .h .now) (a .e .now) (a .id) (a .priority) (a .state) (ownerless-no (a .h .now) (a .e .now) (sym (c .before .before .before .before .before .housed .ensures) ∙ not-false _ (c .before .before .before .before .if1 .left)) (omega arith) (omega arith))
+
+slice-read-if4 : tie.Need-slice-read-if4
+slice-read-if4 c = let a = c .before .before .before .before .before .before .before .before .before .before .before .args in omega (arith, its-words (a .h .now) (a .e .now) (sym (c .before .before .before .before .before .before .housed .ensures) ∙ not-false _ (c .before .before .before .before .before .if1 .left)))
+
+index-1-pend : tie.Need-index-1-pend
+index-1-pend c = let a = c .before .before .before .before .before .before .before .before .before .before .before .before .args in omega (arith, its-words (a .h .now) (a .e .now) (sym (c .before .before .before .before .before .before .before .housed .ensures) ∙ not-false _ (c .before .before .before .before .before .before .if1 .left)))
+
+pend-requires : tie.Need-pend-requires
+pend-requires c κs = search needs
 
 same-length-7 : tie.Need-same-length-7
 same-length-7 c = search needs
@@ -62,10 +63,10 @@ same-length-8 : tie.Need-same-length-8
 same-length-8 c = search needs
 
 returns-4 : tie.Need-returns-4
-returns-4 c = let a = c .before .before .before .before .before .before .before .before .before .before .args in lock-caller (a .h .now) (a .e .now) (sym (c .before .before .before .before .before .formed .ensures) ∙ not-false _ (c .before .before .before .before .if1 .left)) (a .id) (a .priority) (a .state) 21 (low-caller (a .priority) (a .state) (omega arith))
+returns-4 c = let a = c .before .before .before .before .before .before .before .before .before .before .before .before .before .before .before .before .before .args in let u = c .before .before .pend in rw (answered {z = u .result} (u .ok)) (lock-waits (a .h .now) (a .e .now) (sym (c .before .before .before .before .before .before .before .before .before .before .before .before .housed .ensures) ∙ not-false _ (c .before .before .before .before .before .before .before .before .before .before .before .if1 .left)) (a .id) (a .priority) (a .state) (omega arith) (omega arith) (c .before .before .before .before .before .if4 .taken) (u .result) (u .last .0) (u .last .1 .0) (u .ensures))
 
-try-lock-requires : tie.Need-try-lock-requires
-try-lock-requires c κs = search needs
+nest-requires : tie.Need-nest-requires
+nest-requires c κs = let a = c .before .before .before .before .before .before .before .before .before .before .before .before .before .before .args in ((sym (c .before .before .before .before .before .before .before .before .before .housed .ensures) ∙ not-false _ (c .before .before .before .before .before .before .before .before .if1 .left)), omega arith, omega arith, omega arith)
 
 same-length-9 : tie.Need-same-length-9
 same-length-9 c = search needs
@@ -74,31 +75,32 @@ same-length-10 : tie.Need-same-length-10
 same-length-10 c = search needs
 
 returns-5 : tie.Need-returns-5
-returns-5 c = let a = c .before .before .before .before .before .before .before .before .before .before .before .before .before .before .before .args in let u = c .before .before .try-lock in rw (answered {z = u .result} (u .ok)) (lock-tries (a .h .now) (a .e .now) (sym (c .before .before .before .before .before .before .before .before .before .before .formed .ensures) ∙ not-false _ (c .before .before .before .before .before .before .before .before .before .if1 .left)) (a .id) (a .priority) (a .state) 0 (right-caller (a .priority) (a .state) (omega arith) (omega arith)) (λ k. ⊎-elim (λ w. w .2 .left) (λ w. absurd (omega (arith, w .left))) (c .before .before .before .before .before .before .before .if2 .came)) (u .result) (u .last .0) (u .ensures))
+returns-5 c = search needs
 
 pub lock-blocking-spec : {M : Type 1} → statement M
 lock-blocking-spec =
     tie.close
     (tie.spec
-    formed-requires
+    housed-requires
     same-length
     same-length-2
     returns
     slice-read-if2
-    slice-read-if3
-    index-1-pend
-    pend-requires
+    seize-requires
     same-length-3
     same-length-4
     returns-2
-    caller-requires
+    slice-read-if3
     same-length-5
     same-length-6
     returns-3
+    slice-read-if4
+    index-1-pend
+    pend-requires
     same-length-7
     same-length-8
     returns-4
-    try-lock-requires
+    nest-requires
     same-length-9
     same-length-10
     returns-5)

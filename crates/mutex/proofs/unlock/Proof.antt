@@ -2,8 +2,8 @@
 use mathlib.Core.Path.{sym, _∙_}
 use native.Mathlib.Omega.{arith}
 use borrow.Author.Tests.{not-true, not-false}
-use lib.ListN.{length-set}
-use Rattle.mutex.proofs.Answers.{words, unlock-no, unlock-free, unlock-other, unlock-nested, unlock-last, unlock-passed}
+use Rattle.seq.proofs.Integers.{answered}
+use Rattle.mutex.proofs.Answers.{words, unlock-no, unlock-free, unlock-other, unlock-nested, unlock-passes}
 use borrow.Author.Needs.{needs}
 use Rattle.mutex.proofs.unlock.Statement.{statement}
 use Rattle.mutex.proofs.unlock.Tie as tie
@@ -47,38 +47,14 @@ same-length-4 c = search needs
 returns-4 : tie.Need-returns-4
 returns-4 c = let a = c .before .before .before .before .before .before .before .before .before .before .args in unlock-nested (a .h .now) (a .e .now) (sym (c .before .before .before .before .before .before .formed .ensures) ∙ not-false _ (c .before .before .before .before .before .if1 .left)) (a .id) (a .who .now) (omega arith) (omega arith)
 
-slice-read-if5 : tie.Need-slice-read-if5
-slice-read-if5 c = let a = c .before .before .before .before .before .before .before .before .before .before .before .args in omega (arith, words (a .h .now) (a .e .now) (sym (c .before .before .before .before .before .before .before .formed .ensures) ∙ not-false _ (c .before .before .before .before .before .before .if1 .left)))
-
-slice-write-h-2 : tie.Need-slice-write-h-2
-slice-write-h-2 c = let a = c .before .before .before .before .before .before .before .before .before .before .before .before .args in omega (arith, words (a .h .now) (a .e .now) (sym (c .before .before .before .before .before .before .before .before .formed .ensures) ∙ not-false _ (c .before .before .before .before .before .before .before .if1 .left)))
-
-slice-write-h-3 : tie.Need-slice-write-h-3
-slice-write-h-3 c = let a = c .before .before .before .before .before .before .before .before .before .before .before .before .args in omega (arith, words (a .h .now) (a .e .now) (sym (c .before .before .before .before .before .before .before .before .formed .ensures) ∙ not-false _ (c .before .before .before .before .before .before .before .if1 .left)), length-set (a .h .now) 0 0)
+pass-requires : tie.Need-pass-requires
+pass-requires c κs = search needs
 
 same-length-5 : tie.Need-same-length-5
 same-length-5 c = search needs
 
 returns-5 : tie.Need-returns-5
-returns-5 c = let a = c .before .before .before .before .before .before .before .before .before .before .before .before .args in unlock-last (a .h .now) (a .e .now) (sym (c .before .before .before .before .before .before .before .before .formed .ensures) ∙ not-false _ (c .before .before .before .before .before .before .before .if1 .left)) (a .id) (a .who .now) (omega arith) (omega arith) (omega arith) (omega arith)
-
-index-1-unpend-first : tie.Need-index-1-unpend-first
-index-1-unpend-first c = let a = c .before .before .before .before .before .before .before .before .before .before .before .before .args in omega (arith, words (a .h .now) (a .e .now) (sym (c .before .before .before .before .before .before .before .before .formed .ensures) ∙ not-false _ (c .before .before .before .before .before .before .before .if1 .left)))
-
-unpend-first-requires : tie.Need-unpend-first-requires
-unpend-first-requires c κs = search needs
-
-cast-h : tie.Need-cast-h
-cast-h c = search needs
-
-slice-write-h-4 : tie.Need-slice-write-h-4
-slice-write-h-4 c = let a = c .before .before .before .before .before .before .before .before .before .before .before .before .before .before .before .before .args in omega (arith, words (a .h .now) (a .e .now) (sym (c .before .before .before .before .before .before .before .before .before .before .before .before .formed .ensures) ∙ not-false _ (c .before .before .before .before .before .before .before .before .before .before .before .if1 .left)), length-set (a .h .now) 3 (c .before .unpend-first .last .0))
-
-same-length-6 : tie.Need-same-length-6
-same-length-6 c = search needs
-
-returns-6 : tie.Need-returns-6
-returns-6 c = let a = c .before .before .before .before .before .before .before .before .before .before .before .before .before .before .before .before .args in let u = c .before .unpend-first in unlock-passed (a .h .now) (a .e .now) (sym (c .before .before .before .before .before .before .before .before .before .before .before .before .formed .ensures) ∙ not-false _ (c .before .before .before .before .before .before .before .before .before .before .before .if1 .left)) (a .id) (a .who .now) (omega arith) (omega arith) (omega arith) (u .result) (u .last .0) (u .last .1 .1 .1 .0) (omega arith) (u .ensures .0) (u .ensures .1)
+returns-5 c = let a = c .before .before .before .before .before .before .before .before .before .before .before .before .before .before .before .args in let u = c .before .before .pass in rw (answered {z = u .result} (u .ok)) (unlock-passes (a .h .now) (a .e .now) (sym (c .before .before .before .before .before .before .before .before .before .before .before .formed .ensures) ∙ not-false _ (c .before .before .before .before .before .before .before .before .before .before .if1 .left)) (a .id) (a .who .now) (omega arith) (omega arith) (omega arith) (u .result) (u .last .0) (u .last .1 .1 .0) (u .ensures .0, u .ensures .1))
 
 pub unlock-spec : {M : Type 1} → statement M
 unlock-spec =
@@ -97,14 +73,6 @@ unlock-spec =
     slice-write-h
     same-length-4
     returns-4
-    slice-read-if5
-    slice-write-h-2
-    slice-write-h-3
+    pass-requires
     same-length-5
-    returns-5
-    index-1-unpend-first
-    unpend-first-requires
-    cast-h
-    slice-write-h-4
-    same-length-6
-    returns-6)
+    returns-5)
