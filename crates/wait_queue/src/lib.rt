@@ -251,11 +251,6 @@ pub fn pend(len: &mut u32, e: &mut [u64], id: u32, priority: u32, state: u32) ->
     if MAX_PRIORITY <= priority {
         return EINVAL;
     }
-    if n < 1 {
-        e[0] = priority as u64 * 4294967296 + id as u64;
-        *len = 1;
-        return WAITS;
-    }
     let m = seq::wide(n);
     if has(e, m, id as u64) {
         return EBUSY;
