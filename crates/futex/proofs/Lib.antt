@@ -2,3 +2,4 @@ pub mod Law
 pub mod Answers
 pub mod Histories
 pub mod Example
+pub mod Upstream
