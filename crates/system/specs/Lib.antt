@@ -1,0 +1,7 @@
+pub mod Sum
+pub mod System
+pub mod Rules
+pub mod Order
+pub mod Life
+pub mod Rtos
+pub mod Theorems

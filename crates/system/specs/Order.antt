@@ -1,0 +1,46 @@
+-- Who is woken: of the highest priority, and of those the one that has waited longest.
+use mathlib.Core.Path.{_≡_}
+use mathlib.Core.Bool.{Bool, cond}
+use mathlib.Core.Logic.{_⊎_}
+use mathlib.Core.List.{List, [], _∷_, map}
+use Prim.Native.Nat.{ℕ, suc, _<_}
+use lib.Dec.{ltb}
+use lib.IntN.{ℤ}
+use Rattle.seq.specs.List.{All, Sorted}
+use Rattle.wait_queue.specs.Queue.{prio, ident, woken}
+use Rattle.kind.specs.Kind.{Kind}
+use Rattle.system.specs.System.{ready, waiting, Sys, Op, invoke, after, outcome}
+use Rattle.system.specs.Rules.{on}
+
+-- x is to be woken before y: it is of higher priority, or of the same and has waited longer; f: for how long each thread has waited
+abbrev pub Before : (ℕ → ℕ) → ℕ → ℕ → Type 0
+Before f x y = (prio x < prio y) ⊎ ((prio x ≡ prio y) × (f (ident y) < f (ident x)))
+
+module _ {K : Kind} (new : K .Num → Bool) where
+  -- for how many of the last steps, without a break, the thread t has been waiting on the object o
+  abbrev pub age : Sys K → List (Op K) → ℕ → ℕ → ℕ
+  age s [] o t = 0
+  age s (x ∷ past) o t = cond (ltb 0 (on o (after new s (x ∷ past) .state t))) (suc (age s past o t)) 0
+
+  -- (3) every queue is in the order in which it is to be woken
+  abbrev pub Ordered : Sys K → List (Op K) → Type 0
+  Ordered s past = (o : ℕ) → Sorted (Before (age s past o)) (after new s past .queue o)
+
+  -- (3), (4) after the history the thread i calls k of the object o: the thread of x is woken, with the result r, and nobody else
+  pub record Wakes (s : Sys K) (past : List (Op K)) (i o : ℕ) (k : K .Call) (r : ℤ) (x : ℕ) (q : List ℕ) : Type 0 where
+    -- it waited there
+    pub waited : after new s past .state (ident x) ≡ waiting o
+    -- all others that waited there come after it, and wait on
+    pub best : All (Before (age s past o) x) q
+    pub stay : after new s (invoke i o k ∷ past) .queue o ≡ q
+    -- it is ready, with its result; nobody else's state changes
+    pub gets : after new s (invoke i o k ∷ past) .state (ident x) ≡ ready r
+    pub others : (t : ℕ) → (ident x ≡ t → ⊥) → after new s (invoke i o k ∷ past) .state t ≡ after new s past .state t
+
+  -- (7) all that waited are woken, each with its result, in the order of the queue; nobody else's state changes
+  pub record WakesAll (s : Sys K) (past : List (Op K)) (i o : ℕ) (k : K .Call) (n : K .Num) (r : ℕ → ℤ) : Type 0 where
+    -- who is handed out
+    pub told : outcome new (after new s past) i o k n .turn .woken ≡ map (λ x. woken (r (ident x)) x) (after new s past .queue o)
+    pub gets : (t : ℕ) → after new s past .state t ≡ waiting o → after new s (invoke i o k ∷ past) .state t ≡ ready (r t)
+    pub others : (t : ℕ) → (after new s past .state t ≡ waiting o → ⊥) → after new s (invoke i o k ∷ past) .state t ≡ after new s past .state t
+    pub empty : after new s (invoke i o k ∷ past) .queue o ≡ []

@@ -1,0 +1,188 @@
+-- Threads and objects of one kind, which may be a sum: one step for every operation, with its answer.
+use mathlib.Core.Bool.{Bool, true, false, cond}
+use mathlib.Core.List.{List, [], _∷_, map}
+use Prim.Native.Nat.{ℕ}
+use lib.Dec.{eqb, ltb}
+use lib.IntN.{ℤ, pos, negsuc}
+use Rattle.thread.specs.Code.{ok, eagain, einval}
+use Rattle.thread.specs.Priority.{valid}
+use Rattle.wait_queue.specs.Queue.{ident, holds, without}
+use Rattle.kind.specs.Verdict.{gone, Act, keep, park, wake, Verdict, deny, allow}
+use Rattle.kind.specs.Kind.{Kind}
+use Rattle.kind.specs.Object.{Out, thread, call}
+use Rattle.condvar.specs.Post.{agreed}
+
+-- a thread is not there; runs; is ready, with the result of its last call; waits in the queue of an object
+pub data State : Type 0 where
+  absent running : State
+  ready : (result : ℤ) → State
+  waiting : (on : ℕ) → State
+
+-- the state as the code sees it
+abbrev pub number : State → ℕ
+number absent = 3
+number running = 1
+number (ready r) = 0
+number (waiting o) = 2
+
+pub data Slot (N : Type 0) : Type 0 where
+  vacant : Slot N
+  object : N → Slot N
+
+pub record Sys (K : Kind) : Type 0 where
+  -- of each thread: its priority, its state, and the wish that it waits with
+  pub prio : ℕ → ℕ
+  pub state : ℕ → State
+  pub wish : ℕ → K .Wish
+  -- of each object: its numbers, and the entries of those that wait, the first to be woken in front
+  pub slot : ℕ → Slot (K .Num)
+  pub queue : ℕ → List ℕ
+
+pub data Op (K : Kind) : Type 0 where
+  -- the thread i calls k of the object o
+  invoke : (i o : ℕ) (k : K .Call) → Op K
+  -- it calls j of the object a and k of another object b, both or neither
+  both : (i a : ℕ) (j : K .Call) (b : ℕ) (k : K .Call) → Op K
+  -- a ready thread runs; a running one is put back; the time of a waiting one is over
+  dispatch yield expire : (i : ℕ) → Op K
+  -- a thread is made; an object is made
+  spawn : (i p : ℕ) → Op K
+  create : (o : ℕ) (n : K .Num) → Op K
+
+-- the answer: it was done; or it was refused, with a code
+pub data Answer : Type 0 where
+  done denied : ℤ → Answer
+
+abbrev pub reply : ℤ → Answer
+reply (pos c) = done (pos c)
+reply (negsuc c) = denied (negsuc c)
+
+-- the table f with x at the place i
+abbrev pub upd : {A : Type 0} → (ℕ → A) → ℕ → A → ℕ → A
+upd f i x t = cond (eqb i t) x (f t)
+
+abbrev pub deed : {N W : Type 0} → Verdict N W → Act W
+deed (deny r) = keep
+deed (allow n a r) = a
+
+-- the states after an act of the thread i on the object o, whose queue was q
+abbrev pub states : {W : Type 0} → Act W → ℕ → ℕ → List ℕ → (ℕ → State) → ℕ → State
+states keep i o q f t = f t
+states (park x) i o q f t = upd f i (waiting o) t
+states (wake p g) i o q f t = cond (holds t (gone ident p q)) (ready (g t)) (f t)
+
+abbrev pub wishes : {W : Type 0} → Act W → ℕ → (ℕ → W) → ℕ → W
+wishes keep i v t = v t
+wishes (park x) i v t = upd v i x t
+wishes (wake p g) i v t = v t
+
+-- u, unless the answer is a refusal
+abbrev pub unless : {A : Type 0} → ℤ → A → A → A
+unless (pos c) s u = u
+unless (negsuc c) s u = s
+
+-- a new object of these numbers may be made, in a slot that is vacant
+abbrev pub free : {N : Type 0} → Slot N → Bool
+free vacant = true
+free (object n) = false
+
+abbrev pub gone-by : State → Bool
+gone-by absent = true
+gone-by running = false
+gone-by (ready r) = false
+gone-by (waiting o) = false
+
+module _ {K : Kind} (new : K .Num → Bool) where
+  -- what the object o, with the numbers n, does: the definition that the code's contract cites
+  abbrev pub outcome : Sys K → ℕ → ℕ → K .Call → K .Num → Out (K .Num)
+  outcome s i o k n = call K (s .wish) (thread i (s .prio i) (number (s .state i))) k n (s .queue o)
+
+  abbrev pub verdict : Sys K → ℕ → ℕ → K .Call → K .Num → Verdict (K .Num) (K .Wish)
+  verdict s i o k n = K .decide n (s .wish) (map ident (s .queue o)) i k
+
+  -- the verdict d of the object o on a call of the thread i is done: u is what it leaves of the object
+  abbrev pub serve : Sys K → ℕ → ℕ → Verdict (K .Num) (K .Wish) → Out (K .Num) → Sys K
+  serve s i o d u =
+      record {
+        prio = s .prio;
+        state = states (deed d) i o (s .queue o) (s .state);
+        wish = wishes (deed d) i (s .wish);
+        slot = upd (s .slot) o (object (u .num));
+        queue = upd (s .queue) o (u .turn .queue);
+      }
+
+  abbrev pub visited : Slot (K .Num) → Sys K → ℕ → ℕ → K .Call → Sys K × ℤ
+  visited vacant s i o k = (s, einval)
+  visited (object n) s i o k =
+      (unless (outcome s i o k n .turn .code) s (serve s i o (verdict s i o k n) (outcome s i o k n)), outcome s i o k n .turn .code)
+
+  abbrev pub called : Sys K → ℕ → ℕ → K .Call → Sys K × ℤ
+  called s i o k = visited (s .slot o) s i o k
+
+  abbrev pub setState : Sys K → ℕ → State → Sys K
+  setState s i x = record { prio = s .prio; state = upd (s .state) i x; wish = s .wish; slot = s .slot; queue = s .queue }
+
+  -- a thread that was woken gets the result of the call in which it waited
+  abbrev pub dispatched : State → Sys K → ℕ → Sys K × Answer
+  dispatched absent s i = (s, denied einval)
+  dispatched running s i = (s, denied einval)
+  dispatched (ready r) s i = (setState s i running, done r)
+  dispatched (waiting o) s i = (s, denied einval)
+
+  abbrev pub yielded : State → Sys K → ℕ → Sys K × Answer
+  yielded absent s i = (s, denied einval)
+  yielded running s i = (setState s i (ready ok), done ok)
+  yielded (ready r) s i = (s, denied einval)
+  yielded (waiting o) s i = (s, denied einval)
+
+  abbrev pub left : Sys K → ℕ → ℕ → Sys K
+  left s i o =
+      record {
+        prio = s .prio;
+        state = upd (s .state) i (ready eagain);
+        wish = s .wish;
+        slot = s .slot;
+        queue = upd (s .queue) o (without i (s .queue o));
+      }
+
+  abbrev pub expired : State → Sys K → ℕ → Sys K × Answer
+  expired absent s i = (s, denied einval)
+  expired running s i = (s, denied einval)
+  expired (ready r) s i = (s, denied einval)
+  expired (waiting o) s i = (left s i o, done ok)
+
+  -- ids are 32-bit numbers, and priorities 0 to 31
+  abbrev pub spawned : Sys K → ℕ → ℕ → Sys K × Answer
+  spawned s i p =
+      cond (gone-by (s .state i))
+      (cond (ltb i 4294967296)
+      (cond (valid p)
+      (record { prio = upd (s .prio) i p; state = upd (s .state) i (ready ok); wish = s .wish; slot = s .slot; queue = s .queue }, done ok)
+      (s, denied einval))
+      (s, denied einval))
+      (s, denied einval)
+
+  abbrev pub created : Sys K → ℕ → K .Num → Sys K × Answer
+  created s o n =
+      cond (free (s .slot o))
+      (cond (new n) (record { prio = s .prio; state = s .state; wish = s .wish; slot = upd (s .slot) o (object n); queue = s .queue }, done ok) (s, denied einval))
+      (s, denied einval)
+
+  -- both calls, the second in the state that the first leaves
+  abbrev pub answers : Sys K → ℕ → ℕ → K .Call → ℕ → K .Call → ℤ
+  answers s i a j b k = agreed (called s i a j .1) (called (called s i a j .0) i b k .1)
+
+  abbrev pub step : Sys K → Op K → Sys K × Answer
+  step s (invoke i o k) = (called s i o k .0, reply (called s i o k .1))
+  step s (both i a j b k) =
+      cond (eqb a b) (s, denied einval) (unless (answers s i a j b k) s (called (called s i a j .0) i b k .0), reply (answers s i a j b k))
+  step s (dispatch i) = dispatched (s .state i) s i
+  step s (yield i) = yielded (s .state i) s i
+  step s (expire i) = expired (s .state i) s i
+  step s (spawn i p) = spawned s i p
+  step s (create o n) = created s o n
+
+  -- the state after a history, the newest operation in front
+  abbrev pub after : Sys K → List (Op K) → Sys K
+  after s [] = s
+  after s (x ∷ past) = step (after s past) x .0

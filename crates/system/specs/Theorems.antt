@@ -1,0 +1,73 @@
+-- What holds after every history of the system of semaphores, mutexes, condition variables and futexes, from a start at which there is no
+-- object and nobody waits.
+use mathlib.Core.Path.{_≡_}
+use mathlib.Core.List.{List, [], _∷_}
+use Prim.Native.Nat.{ℕ, suc, _<_, _≤_}
+use lib.IntN.{pos}
+use lib.ListN.{length}
+use Rattle.thread.specs.Code.{ok, eagain}
+use Rattle.wait_queue.specs.Queue.{ident}
+use Rattle.sem.specs.Sem.{Sem, give, reset}
+use Rattle.mutex.specs.Mutex.{Mutex, nobody, thread, unlock, taken}
+use Rattle.condvar.specs.Condvar.{signal, broadcast}
+use Rattle.futex.specs.Futex.{Futex, wakeOne, wakeAll}
+use Rattle.system.specs.System.{running, object, Sys, Op, invoke, called, step, after}
+use Rattle.system.specs.Rules.{Placed, Kept}
+use Rattle.system.specs.Order.{Ordered, Wakes, WakesAll}
+use Rattle.system.specs.Life.{Life, Refuses}
+use Rattle.system.specs.Rtos.{rtos, new, aSem, aMutex, aCondvar, aFutex, semCall, mutexCall, condvarCall, futexCall}
+
+-- (2) in the words of the objects
+pub record Idle (s : Sys rtos) : Type 0 where
+  -- nobody waits at a semaphore unless its count is 0
+  pub sem : (o : ℕ) (n : Sem) → s .slot o ≡ object (aSem n) → 0 < n .count → s .queue o ≡ []
+  -- nobody waits at a free mutex
+  pub mutex : (o : ℕ) (m : Mutex) → s .slot o ≡ object (aMutex m) → m .owner ≡ nobody → s .queue o ≡ []
+
+-- (3), (4) a give, a last unlock, a signal and a wake-up of one wake the first, with 0
+pub record First (s : Sys rtos) (past : List (Op rtos)) : Type 0 where
+  pub give : (i o x : ℕ) (q : List ℕ) (n : Sem) → after new s past .slot o ≡ object (aSem n) → after new s past .state i ≡ running → after new s past .queue o ≡ x ∷ q
+      → Wakes new s past i o (semCall give) ok x q
+  -- the last unlock hands the mutex over, with one lock
+  pub unlock : (i o x : ℕ) (q : List ℕ) → after new s past .slot o ≡ object (aMutex (record { owner = thread i; count = 1 })) → after new s past .state i ≡ running
+      → after new s past .queue o ≡ x ∷ q
+      → Wakes new s past i o (mutexCall unlock) ok x q × (after new s (invoke i o (mutexCall unlock) ∷ past) .slot o ≡ object (aMutex (taken (ident x))))
+  pub signal : (i o x : ℕ) (q : List ℕ) → after new s past .slot o ≡ object aCondvar → after new s past .state i ≡ running → after new s past .queue o ≡ x ∷ q
+      → Wakes new s past i o (condvarCall signal) ok x q
+  pub wake : (i o x : ℕ) (q : List ℕ) (f : Futex) → after new s past .slot o ≡ object (aFutex f) → after new s past .state i ≡ running → after new s past .queue o ≡ x ∷ q
+      → Wakes new s past i o (futexCall wakeOne) ok x q
+
+-- (4) no wake-up is lost: a give to nobody raises the count, unless it is at its limit; a give to somebody leaves it
+pub record Counted (s : Sys rtos) (past : List (Op rtos)) : Type 0 where
+  pub raised : (i o : ℕ) (n : Sem) → after new s past .slot o ≡ object (aSem n) → after new s past .state i ≡ running → after new s past .queue o ≡ []
+      → n .count < n .limit → after new s (invoke i o (semCall give) ∷ past) .slot o ≡ object (aSem (record { count = suc (n .count); limit = n .limit }))
+  pub full : (i o : ℕ) (n : Sem) → after new s past .slot o ≡ object (aSem n) → after new s past .state i ≡ running → after new s past .queue o ≡ []
+      → n .limit ≤ n .count → after new s (invoke i o (semCall give) ∷ past) .slot o ≡ object (aSem n)
+  pub passed : (i o x : ℕ) (q : List ℕ) (n : Sem) → after new s past .slot o ≡ object (aSem n) → after new s past .state i ≡ running → after new s past .queue o ≡ x ∷ q
+      → after new s (invoke i o (semCall give) ∷ past) .slot o ≡ object (aSem n)
+
+-- (7) a reset, a broadcast and a wake-up of all wake exactly those that waited, and answer how many they are
+pub record Everybody (s : Sys rtos) (past : List (Op rtos)) : Type 0 where
+  pub reset : (i o : ℕ) (n : Sem) → after new s past .slot o ≡ object (aSem n) → after new s past .state i ≡ running
+      → WakesAll new s past i o (semCall reset) (aSem n) (λ t. eagain) × (called new (after new s past) i o (semCall reset) .1 ≡ pos (length (after new s past .queue o)))
+  pub broadcast : (i o : ℕ) → after new s past .slot o ≡ object aCondvar → after new s past .state i ≡ running
+      → WakesAll new s past i o (condvarCall broadcast) aCondvar (λ t. ok) × (called new (after new s past) i o (condvarCall broadcast) .1 ≡ pos (length (after new s past .queue o)))
+  pub wake : (i o : ℕ) (f : Futex) → after new s past .slot o ≡ object (aFutex f) → after new s past .state i ≡ running
+      → WakesAll new s past i o (futexCall wakeAll) (aFutex f) (λ t. ok) × (called new (after new s past) i o (futexCall wakeAll) .1 ≡ pos (length (after new s past .queue o)))
+
+pub record Theorems (s : Sys rtos) (past : List (Op rtos)) : Type 0 where
+  -- every thread is running, ready, or in exactly one queue, once
+  pub placed : Placed (after new s past)
+  -- no thread waits while what it waits for is there
+  pub kept : Kept (after new s past)
+  pub idle : Idle (after new s past)
+  -- every queue is in the order in which it is to be woken, and the first is woken
+  pub ordered : Ordered new s past
+  pub first : First s past
+  -- all that the next step can do to a thread
+  pub life : (x : Op rtos) (t : ℕ) → Life rtos (after new s past .wish) x (step new (after new s past) x .1) t (after new s past .state t) (after new s (x ∷ past) .state t)
+  pub counted : Counted s past
+  -- a refusal changes nothing
+  pub refuses : (x : Op rtos) → Refuses new (after new s past) x
+  -- those that are woken together
+  pub everybody : Everybody s past
