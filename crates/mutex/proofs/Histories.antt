@@ -28,10 +28,10 @@ use Rattle.mutex.proofs.Moves.{Move, refuses, takes, nests, joins, unne
 abbrev Apart : Owner → List ℕ → Type 0
 Apart o q = (i : ℕ) → o ≡ thread i → holds i q ≡ false
 
-thread-is : {i j : ℕ} → thread i ≡ thread j → i ≡ j
+pub thread-is : {i j : ℕ} → thread i ≡ thread j → i ≡ j
 thread-is h = cc
 
-never : {A : Type 0} {i : ℕ} → nobody ≡ thread i → A
+pub never : {A : Type 0} {i : ℕ} → nobody ≡ thread i → A
 never h = absurd (let x : _≡_ {A = ℕ} 0 1 = cc in omega arith)
 
 -- nobody waits at a free mutex
@@ -44,7 +44,7 @@ module _ (k : Call) (w : Caller) (m : Mutex) (q : List ℕ) (f : formed m (any q
   free-queue : m .owner ≡ nobody → q ≡ []
   free-queue h = none q (free-empty (m .count) (any q) (rw h at f) .1)
 
-  apart-next : (o : Out Mutex) → Move k w m q o → Apart (o .num .owner) (o .turn .queue)
+  pub apart-next : (o : Out Mutex) → Move k w m q o → Apart (o .num .owner) (o .turn .queue)
   apart-next o (refuses r e) = rw e a
   apart-next o (takes h e) = rw (e, free-queue h) (λ i z. refl)
   apart-next o (nests h l c e) = rw e a
@@ -79,7 +79,7 @@ module _ (k : Call) (w : Caller) (m : Mutex) (q : List ℕ) (f : formed m (any q
       go release = refl
   refused-count false r = refl
 
-  count-next : (o : Out Mutex) → Move k w m q o → Counts o
+  pub count-next : (o : Out Mutex) → Move k w m q o → Counts o
   count-next o (refuses r e) = rw (e, same-self (m .owner)) (refused-count (owns (name w) (m .owner)) r)
   count-next o (takes h e) = rw (e, h) refl
   count-next o (nests h l c e) = rw (e, h, eq-eqb (name w) (name w) refl, c (m .count)) refl
@@ -94,7 +94,7 @@ module _ (k : Call) (w : Caller) (m : Mutex) (q : List ℕ) (f : formed m (any q
       other true y z = clash z
       other false y z = ne-eqb (name w) (ident x) (λ u. eqb-false (ident x) (name w) y (sym u))
 
-  small-next : m .count ≤ maxCount → (o : Out Mutex) → Move k w m q o → o .num .count ≤ maxCount
+  pub small-next : m .count ≤ maxCount → (o : Out Mutex) → Move k w m q o → o .num .count ≤ maxCount
   small-next b o (refuses r e) = rw e b
   small-next b o (takes h e) = rw e (omega arith)
   small-next b o (nests h l c e) = rw e (omega (arith, l))
@@ -122,7 +122,7 @@ apart-step s (asks i p st h k) g a =
     apart-next k (object.thread i p st) (s .num) (s .queue) (g .numbers) (g .queue .single) a (waiting i p st h) _ (moves (object.thread i p st) k (s .num) (s .queue) (g .numbers))
 apart-step s (leaves i) g a = λ j z. left-queue i j (s .queue) (holds i (s .queue)) refl (a j z)
 
-same-owner : (o : Owner) → same o o ≡ true
+pub same-owner : (o : Owner) → same o o ≡ true
 same-owner nobody = refl
 same-owner (thread i) = eq-eqb i i refl
 
@@ -155,10 +155,10 @@ counts-depth s (x ∷ xs) g a =
     ∙ ap (depth (next mutex-kind plain s x) xs) (count-step s x g a)
 
 module _ (o : Owner) (c : ℕ) (q : List ℕ) (f : formed (mk o c) (any q) ≡ true) where
-  has-count : (i : ℕ) → o ≡ thread i → 0 < c
+  pub has-count : (i : ℕ) → o ≡ thread i → 0 < c
   has-count i h = ltb-true 0 c (rw h at f)
 
-  has-none : o ≡ nobody → (c ≡ 0) × (q ≡ [])
+  pub has-none : o ≡ nobody → (c ≡ 0) × (q ≡ [])
   has-none h = let z = free-empty c (any q) (rw h at f) in (z .0, none q (z .1))
 
 pub mutex-history : (xs : List (Event Call)) → Promise xs

@@ -5,4 +5,7 @@ pub mod Sum
 pub mod Orders
 pub mod Wakes
 pub mod Lives
+pub mod MutexCalls
+pub mod Mutexes
+pub mod MutexExample
 pub mod Theorems

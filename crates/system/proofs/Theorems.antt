@@ -26,6 +26,7 @@ use Rattle.system.proofs.Steps.{always}
 use Rattle.system.proofs.Sum.{rtos-lawful, rtos-new}
 use Rattle.system.proofs.Orders.{ordered}
 use Rattle.system.proofs.Wakes.{answered, served, wakes-first, wakes-all}
+use Rattle.system.proofs.Mutexes.{mutexes-always}
 use Rattle.system.proofs.Lives.{refuses, lives}
 
 nobody-there : (q : List ℕ) → any q ≡ false → q ≡ []
@@ -107,6 +108,7 @@ module _ (s : Sys rtos) (b : Start s) (past : List (Op rtos)) where
         first = first;
         life = λ x t. lives new rtos-lawful u fine t x;
         counted = counted;
+        mutexes = mutexes-always s b past;
         refuses = refuses new u;
         everybody = everyone;
       }

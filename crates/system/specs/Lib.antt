@@ -4,4 +4,5 @@ pub mod Rules
 pub mod Order
 pub mod Life
 pub mod Rtos
+pub mod Mutexes
 pub mod Theorems

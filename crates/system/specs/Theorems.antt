@@ -15,6 +15,7 @@ use Rattle.system.specs.System.{running, object, Sys, Op, invoke, called
 use Rattle.system.specs.Rules.{Placed, Kept}
 use Rattle.system.specs.Order.{Ordered, Wakes, WakesAll}
 use Rattle.system.specs.Life.{Life, Refuses}
+use Rattle.system.specs.Mutexes.{Mutexes}
 use Rattle.system.specs.Rtos.{rtos, new, aSem, aMutex, aCondvar, aFutex, semCall, mutexCall, condvarCall, futexCall}
 
 -- (2) in the words of the objects
@@ -67,6 +68,8 @@ pub record Theorems (s : Sys rtos) (past : List (Op rtos)) : Type 0 where
   -- all that the next step can do to a thread
   pub life : (x : Op rtos) (t : ℕ) → Life rtos (after new s past .wish) x (step new (after new s past) x .1) t (after new s past .state t) (after new s (x ∷ past) .state t)
   pub counted : Counted s past
+  -- of each mutex: its owner, and the owner's locks minus its unlocks
+  pub mutexes : Mutexes s past
   -- a refusal changes nothing
   pub refuses : (x : Op rtos) → Refuses new (after new s past) x
   -- those that are woken together
