@@ -9,3 +9,7 @@ pub mod MutexCalls
 pub mod Mutexes
 pub mod MutexExample
 pub mod Theorems
+pub mod Woken
+pub mod Link
+pub mod Functions
+pub mod Example

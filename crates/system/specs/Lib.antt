@@ -6,3 +6,4 @@ pub mod Life
 pub mod Rtos
 pub mod Mutexes
 pub mod Theorems
+pub mod Link
