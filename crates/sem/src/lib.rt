@@ -7,11 +7,12 @@ use thread::OK;
 use thread::RUNNING;
 use wait_queue::WAITS;
 ghost use mathlib.Core.Path.{_≡_};
-ghost use Prim.Native.Nat.{ℕ};
+ghost use mathlib.Core.Bool.{true};
+ghost use Prim.Native.Nat.{ℕ, _<_};
 ghost use mathlib.Core.List.{List};
-ghost use lib.ListN.{length};
+ghost use lib.ListN.{length, getD};
 ghost use Rattle.wait_queue.specs.Post.{Told, Listed};
-ghost use Rattle.kind.specs.Object.{on, Does, sane, Audited};
+ghost use Rattle.kind.specs.Object.{on, Does, sized, sane, Audited};
 ghost use Rattle.sem.specs.Sem.{Sem, formed as formedSem, sem-kind};
 ghost use Rattle.sem.specs.Post.{layout, giveOut, tryTakeOut, takeOut, resetOut, getOut, Starts, GiveDecided, TakeDecided};
 
@@ -145,6 +146,28 @@ pub fn try_take(h: &mut [u32], e: &[u64]) -> i32
     EBUSY
 }
 
+// A semaphore with a count above 0.
+fn take_there(h: &mut [u32], e: &[u64], id: u32, priority: u32, state: u32) -> i32
+    requires { ⌜ (sized 3 (now h) (now e) ≡ true) × (0 < getD (now h) 0 0) ⌝ }
+    ensures { λ r. ⌜ Does layout (takeOut id priority state) (now (h .entry)) (now (e .entry)) r (now (h .exit)) (now (e .entry)) ⌝ }
+{
+    let there = h[0];
+    if h[1] < there {
+        return EINVAL;
+    }
+    if 0 < h[2] {
+        return EINVAL;
+    }
+    if state != RUNNING {
+        return wait_queue::caller(priority, state);
+    }
+    if MAX_PRIORITY <= priority {
+        return EINVAL;
+    }
+    h[0] = there - 1;
+    OK
+}
+
 // OK: one was taken; WAITS: the thread waits, behind all of equal or higher priority.
 pub fn take_blocking(h: &mut [u32], e: &mut [u64], id: u32, priority: u32, state: u32) -> i32
     ensures { λ r. ⌜ Does layout (takeOut id priority state) (now (h .entry)) (now (e .entry)) r (now (h .exit)) (now (e .exit)) ⌝ }
@@ -152,26 +175,10 @@ pub fn take_blocking(h: &mut [u32], e: &mut [u64], id: u32, priority: u32, state
     if !kind::housed(h, 3, e) {
         return EINVAL;
     }
-    let there = h[0];
-    let limit = h[1];
-    if 0 < there {
-        if limit < there {
-            return EINVAL;
-        }
-        let n = h[2];
-        if 0 < n {
-            return EINVAL;
-        }
-        if state != RUNNING {
-            return wait_queue::caller(priority, state);
-        }
-        if MAX_PRIORITY <= priority {
-            return EINVAL;
-        }
-        h[0] = there - 1;
-        return OK;
+    if 0 < h[0] {
+        return take_there(h, e, id, priority, state);
     }
-    if limit == 0 {
+    if h[1] == 0 {
         return EINVAL;
     }
     wait_queue::pend(&mut h[2], e, id, priority, state)
