@@ -23,15 +23,7 @@ use Rattle.kind.specs.Kind.{Kind, Lawful, Sound}
 use Rattle.kind.specs.Object.{Out, refused, named, thread, joins, carried, asked}
 use Rattle.kind.specs.History.{Object, Event, calls, asks, leaves, of-priority, stays, line, happens, next, run, came, arrivals, Good, Lasting}
 use Rattle.kind.proofs.Lines.{chosen-swap, stay-sub, stay-joined}
-use Rattle.kind.proofs.Picks.{any-map, left-sub, left-map}
-
-any-joined : (w : ℕ) (q : List ℕ) → any (joined w q) ≡ true
-any-joined w [] = refl
-any-joined w (x ∷ q) = go (ltb (prio w) (prio x))
-  where
-    go : (b : Bool) → any (cond b (w ∷ x ∷ q) (x ∷ joined w q)) ≡ true
-    go true = refl
-    go false = refl
+use Rattle.kind.proofs.Picks.{any-joined, any-map, left-sub, left-map}
 
 pub caller-valid : (p st c : ℕ) → callerCode p st ≡ pos c → p < maxPriority
 caller-valid p st c h = go (valid p) refl

@@ -3,9 +3,12 @@ use mathlib.Core.Path.{_≡_, refl, ap}
 use mathlib.Core.Bool.{Bool, true, false, cond}
 use mathlib.Core.List.{List, [], _∷_, map}
 use Prim.Native.Nat.{ℕ, zero, suc}
+use lib.Dec.{ltb}
 use lib.ListN.{take, drop}
 use Rattle.seq.specs.List.{any, chosen, others, All, Sub}
+use Rattle.seq.proofs.Order.{clash}
 use Rattle.seq.proofs.Sub.{sub-none, sub-drop, others-sub}
+use Rattle.wait_queue.specs.Queue.{prio, joined}
 use Rattle.kind.specs.Verdict.{Pick, upTo, everybody, those, gone, left}
 use Rattle.kind.specs.Kind.{itself}
 
@@ -13,6 +16,18 @@ use Rattle.kind.specs.Kind.{itself}
 pub all-of : (P : ℕ → Type 0) → ((t : ℕ) → P t) → (q : List ℕ) → All P q
 all-of P f [] = tt
 all-of P f (t ∷ q) = (f t, all-of P f q)
+
+pub any-joined : (w : ℕ) (q : List ℕ) → any (joined w q) ≡ true
+any-joined w [] = refl
+any-joined w (x ∷ q) = go (ltb (prio w) (prio x))
+  where
+    go : (b : Bool) → any (cond b (w ∷ x ∷ q) (x ∷ joined w q)) ≡ true
+    go true = refl
+    go false = refl
+
+pub none-any : (q : List ℕ) → any q ≡ false → q ≡ []
+none-any [] h = refl
+none-any (x ∷ q) h = clash h
 
 pub any-map : (f : ℕ → ℕ) (q : List ℕ) → any (map f q) ≡ any q
 any-map f [] = refl

@@ -18,6 +18,7 @@ use Rattle.kind.specs.Kind.{plain}
 use Rattle.kind.specs.Object as object
 use Rattle.kind.specs.Object.{Out, Caller, named, name}
 use Rattle.kind.specs.History.{Object, Event, calls, asks, leaves, next, run, Good, Lasting}
+use Rattle.kind.proofs.Picks.{none-any}
 use Rattle.kind.proofs.Histories.{step, throughout, always}
 use Rattle.mutex.specs.Mutex.{Owner, nobody, thread, Mutex, Call, lock, tryLock, unlock, release, owns, formed, maxCount, free, mutex-kind}
 use Rattle.mutex.specs.History.{fresh, after, same, counts, tally, begins, depth, Promise}
@@ -34,15 +35,10 @@ thread-is h = cc
 pub never : {A : Type 0} {i : ℕ} → nobody ≡ thread i → A
 never h = absurd (let x : _≡_ {A = ℕ} 0 1 = cc in omega arith)
 
--- nobody waits at a free mutex
-none : (q : List ℕ) → any q ≡ false → q ≡ []
-none [] h = refl
-none (x ∷ q) h = clash h
-
 -- a call
 module _ (k : Call) (w : Caller) (m : Mutex) (q : List ℕ) (f : formed m (any q) ≡ true) (s : Single q) (a : Apart (m .owner) q) (small : (i p st : ℕ) → w ≡ object.thread i p st → i < 4294967296) where
   free-queue : m .owner ≡ nobody → q ≡ []
-  free-queue h = none q (free-empty (m .count) (any q) (rw h at f) .1)
+  free-queue h = none-any q (free-empty (m .count) (any q) (rw h at f) .1)
 
   pub apart-next : (o : Out Mutex) → Move k w m q o → Apart (o .num .owner) (o .turn .queue)
   apart-next o (refuses r e) = rw e a
@@ -159,7 +155,7 @@ module _ (o : Owner) (c : ℕ) (q : List ℕ) (f : formed (mk o c) (any q) ≡ t
   has-count i h = ltb-true 0 c (rw h at f)
 
   pub has-none : o ≡ nobody → (c ≡ 0) × (q ≡ [])
-  has-none h = let z = free-empty c (any q) (rw h at f) in (z .0, none q (z .1))
+  has-none h = let z = free-empty c (any q) (rw h at f) in (z .0, none-any q (z .1))
 
 pub mutex-history : (xs : List (Event Call)) → Promise xs
 mutex-history xs =

@@ -20,7 +20,7 @@ use Rattle.wait_queue.proofs.Well.{Other, holds-none, well-sub, well-joined}
 use Rattle.kind.specs.Verdict.{Pick, gone, left, keep, park, wake, Verdict, deny, allow}
 use Rattle.kind.specs.Kind.{Kind, Lawful, Rightly, Sound, Right}
 use Rattle.kind.specs.Object.{Out, refused, thread, carried}
-use Rattle.kind.proofs.Picks.{any-map, left-sub, left-map}
+use Rattle.kind.proofs.Picks.{any-joined, any-map, left-sub, left-map}
 use Rattle.system.specs.System.{State, absent, running, ready, waiting, number, Slot, vacant, object, Sys, upd, unless, serve, outcome, verdict, visited, called}
 use Rattle.system.specs.Rules.{times, on, Fine}
 use Rattle.system.proofs.Times.{times-joined, times-pick, held, unheld, not-held, on-is, on-one, all-list, list-all}
@@ -28,14 +28,6 @@ use Rattle.system.proofs.Times.{times-joined, times-pick, held, unheld,
 pub all-two : (P Q R : ℕ → Type 0) (l : List ℕ) → ((y : ℕ) → P y → Q y → R y) → All P l → All Q l → All R l
 all-two P Q R [] f a b = tt
 all-two P Q R (y ∷ l) f a b = (f y (a .0) (b .0), all-two P Q R l f (a .1) (b .1))
-
-any-joined : (w : ℕ) (q : List ℕ) → any (joined w q) ≡ true
-any-joined w [] = refl
-any-joined w (x ∷ q) = go (ltb (prio w) (prio x))
-  where
-    go : (b : Bool) → any (cond b (w ∷ x ∷ q) (x ∷ joined w q)) ≡ true
-    go true = refl
-    go false = refl
 
 object-is : {N : Type 0} {m n : N} → object m ≡ object n → m ≡ n
 object-is h = cc

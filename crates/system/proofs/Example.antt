@@ -7,7 +7,7 @@ use native.Mathlib.Omega.{arith}
 use lib.IntN.{pos}
 use Rattle.thread.specs.Code.{ok, eperm, eagain, ebusy, einval, edeadlk}
 use Rattle.wait_queue.specs.Queue.{maxWaiters, entry, ident}
-use Rattle.sem.specs.Sem.{give, take}
+use Rattle.sem.specs.Sem.{give, take, reset}
 use Rattle.sem.specs.Post.{layout}
 use Rattle.mutex.specs.Mutex as mutex
 use Rattle.condvar.specs.Condvar as condvar
@@ -158,3 +158,10 @@ in-memory = record { words = omega arith; room = refl; slot = refl; queue = refl
 pub in-memory-taken : Is layout aSem (after new bare taken) 0 (0 ∷ 2 ∷ 3 ∷ []) (entry 5 9 ∷ entry 5 7 ∷ entry 2 3 ∷ zeros 61)
 unfolding maxWaiters
 in-memory-taken = record { words = omega arith; room = refl; slot = refl; queue = refl }
+
+-- a reset wakes all three, each with -11, and answers 3; with nobody waiting it answers 0
+pub reset-all : (after new bare (invoke 1 0 (semCall reset) ∷ taken) .state 3 ≡ ready eagain) × (after new bare (invoke 1 0 (semCall reset) ∷ taken) .state 7 ≡ ready eagain)
+    × (after new bare (invoke 1 0 (semCall reset) ∷ taken) .state 9 ≡ ready eagain) × (after new bare (invoke 1 0 (semCall reset) ∷ taken) .queue 0 ≡ [])
+    × (step new (after new bare taken) (invoke 1 0 (semCall reset)) .1 ≡ done (pos 3)) × (step new (after new bare begun) (invoke 1 0 (semCall reset)) .1 ≡ done (pos 0))
+unfolding maxWaiters
+reset-all = (refl, refl, refl, refl, refl, refl)

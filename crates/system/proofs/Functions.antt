@@ -38,7 +38,7 @@ use Rattle.system.specs.Sum.{Member, _⊕_, mapped, onRight}
 use Rattle.system.specs.System.{State, running, number, vacant, Sys, create, reply, outcome, verdict, called, answers}
 use Rattle.system.specs.Rules.{Fine}
 use Rattle.system.specs.Rtos.{sems, mutexes, condvars, futexes, rtos, aSem, aMutex, aCondvar, aFutex, semCall, mutexCall, condvarCall, futexCall, new}
-use Rattle.system.specs.Link.{wrapped, Is, Wakes, Steps, Pairs, Turns}
+use Rattle.system.specs.Link.{wrapped, Is, HandsOut, Steps, Pairs, Turns}
 use Rattle.system.proofs.Calls.{runs, barred, called-fine}
 use Rattle.system.proofs.Sum.{rtos-lawful}
 use Rattle.system.proofs.Woken.{parked-none, wakes-on}
@@ -291,7 +291,7 @@ module _ (s : Sys rtos) (g : Fine s) (i a b : ℕ) (off : a ≡ b → ⊥) (m d 
                 wakes =
                     rw (z, ne-eqb a b off, told)
                     (wakes-on s mid (called new mid i b await .0) i (given .turn .woken) (state-mid u f ∙ run u f) (one .wakes)
-                    (subst (λ (l : List ℕ). Wakes mid i (called new mid i b await .0) l) joined-none (two .wakes)));
+                    (subst (λ (l : List ℕ). HandsOut mid i (called new mid i b await .0) l) joined-none (two .wakes)));
               }
 
 -- init, in a slot that is vacant and in memory that is long enough; its numbers have 32 bits

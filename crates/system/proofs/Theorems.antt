@@ -1,17 +1,17 @@
 -- The theorems hold. Assumes nothing.
 use mathlib.Core.Path.{_≡_, refl}
 use mathlib.Core.Bool.{Bool, true, false}
-use mathlib.Core.List.{List, [], _∷_}
-use Prim.Native.Nat.{ℕ, suc}
+use mathlib.Core.List.{List}
+use Prim.Native.Nat.{suc}
 use native.Mathlib.Omega.{arith}
 use lib.IntN.{pos}
 use lib.ListN.{length, length-map}
 use borrow.Author.Tests.{lt-ltb, le-ltb, eq-eqb}
 use Rattle.seq.specs.List.{any}
-use Rattle.seq.proofs.Order.{clash}
 use Rattle.thread.specs.Code.{ok, eagain}
 use Rattle.wait_queue.specs.Queue.{ident}
 use Rattle.kind.specs.Verdict.{upTo, everybody, keep, wake, allow}
+use Rattle.kind.proofs.Picks.{none-any}
 use Rattle.sem.specs.Sem.{give, reset, counting, woke, incremented, saturated}
 use Rattle.sem.proofs.Law.{is-fine}
 use Rattle.mutex.specs.Mutex.{thread, unlock, taken}
@@ -29,15 +29,11 @@ use Rattle.system.proofs.Wakes.{answered, served, wakes-first, wakes-al
 use Rattle.system.proofs.Mutexes.{mutexes-always}
 use Rattle.system.proofs.Lives.{refuses, lives}
 
-nobody-there : (q : List ℕ) → any q ≡ false → q ≡ []
-nobody-there [] h = refl
-nobody-there (x ∷ q) h = clash h
-
 idle : (s : Sys rtos) → Fine s → Idle s
 idle s g =
     record {
-      sem = λ o n h c. nobody-there (s .queue o) (not-any (any (s .queue o)) (λ e. absurd (omega (arith, c, is-fine (n .count) (n .limit) (any (s .queue o)) (g .formed o (aSem n) h) .empty e))));
-      mutex = λ o m h e. nobody-there (s .queue o) (free-empty (m .count) (any (s .queue o)) (rw e at (g .formed o (aMutex m) h)) .1);
+      sem = λ o n h c. none-any (s .queue o) (not-any (any (s .queue o)) (λ e. absurd (omega (arith, c, is-fine (n .count) (n .limit) (any (s .queue o)) (g .formed o (aSem n) h) .empty e))));
+      mutex = λ o m h e. none-any (s .queue o) (free-empty (m .count) (any (s .queue o)) (rw e at (g .formed o (aMutex m) h)) .1);
     }
   where
     not-any : (b : Bool) → (b ≡ true → ⊥) → b ≡ false

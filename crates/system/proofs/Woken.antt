@@ -22,7 +22,7 @@ use Rattle.kind.specs.Object.{Out, thread, carried}
 use Rattle.condvar.specs.Post.{Allowed}
 use Rattle.system.specs.System.{running, ready, number, object, Sys, unless, serve, outcome, verdict, visited, called}
 use Rattle.system.specs.Rules.{Fine}
-use Rattle.system.specs.Link.{Readied, Wakes}
+use Rattle.system.specs.Link.{Readied, HandsOut}
 use Rattle.system.proofs.Calls.{barred, granted}
 
 -- the words of the woken threads
@@ -66,7 +66,7 @@ module _ {K : Kind} (new : K .Num → Bool) (s : Sys K) (g : Fine s) (i o : ℕ)
         go true t z = refl
         go false t z = z
 
-  by-verdict : (d : Verdict (K .Num) (K .Wish)) (u : Out (K .Num)) → Wakes s i (serve new s i o d u) (carried (thread i (s .prio i) 1) d n q .turn .woken)
+  by-verdict : (d : Verdict (K .Num) (K .Wish)) (u : Out (K .Num)) → HandsOut s i (serve new s i o d u) (carried (thread i (s .prio i) 1) d n q .turn .woken)
   by-verdict (deny r) u = record { ready = tt; others = λ t z x. refl }
   by-verdict (allow m keep r) u = record { ready = tt; others = λ t z x. refl }
   by-verdict (allow m (park y) r) u =
@@ -77,23 +77,23 @@ module _ {K : Kind} (new : K .Num → Bool) (s : Sys K) (g : Fine s) (i o : ℕ)
         others = λ t z x. rw (sym (told-holds f t (gone ident p q)) ∙ z);
       }
 
-  pub call-wakes : Allowed (outcome new s i o k n .turn .code) (Wakes s i (called new s i o k .0) (outcome new s i o k n .turn .woken))
+  pub call-wakes : Allowed (outcome new s i o k n .turn .code) (HandsOut s i (called new s i o k .0) (outcome new s i o k n .turn .woken))
   call-wakes = rw h (go (callerCode (s .prio i) (number (s .state i))) refl)
     where
-      by : (z : ℤ) (d : Verdict (K .Num) (K .Wish)) (u : Out (K .Num)) (w : List ℕ) → Wakes s i (serve new s i o d u) w → Allowed z (Wakes s i (unless z s (serve new s i o d u)) w)
+      by : (z : ℤ) (d : Verdict (K .Num) (K .Wish)) (u : Out (K .Num)) (w : List ℕ) → HandsOut s i (serve new s i o d u) w → Allowed z (HandsOut s i (unless z s (serve new s i o d u)) w)
       by (pos c) d u w x = x
       by (negsuc c) d u w x = tt
 
       go : (z : ℤ) → callerCode (s .prio i) (number (s .state i)) ≡ z
-          → Allowed (outcome new s i o k n .turn .code) (Wakes s i (visited new (object n) s i o k .0) (outcome new s i o k n .turn .woken))
+          → Allowed (outcome new s i o k n .turn .code) (HandsOut s i (visited new (object n) s i o k .0) (outcome new s i o k n .turn .woken))
       go (negsuc c) z = rw (barred new s i o k n (g .formed o n h) c z) tt
       go (pos c) z =
           by (outcome new s i o k n .turn .code) (verdict new s i o k n) (outcome new s i o k n) (outcome new s i o k n .turn .woken)
-          (subst (λ (w : List ℕ). Wakes s i (serve new s i o (verdict new s i o k n) (outcome new s i o k n)) w) (sym (ap (λ (y : Out (K .Num)). y .turn .woken) (granted new s i o k n (g .formed o n h) c z)))
+          (subst (λ (w : List ℕ). HandsOut s i (serve new s i o (verdict new s i o k n) (outcome new s i o k n)) w) (sym (ap (λ (y : Out (K .Num)). y .turn .woken) (granted new s i o k n (g .formed o n h) c z)))
           (by-verdict (verdict new s i o k n) (outcome new s i o k n)))
 
 -- one call after another, of which the second wakes nobody, by a thread that still runs between them
-pub wakes-on : {K : Kind} (s t u : Sys K) (i : ℕ) (y : List ℕ) → t .state i ≡ running → Wakes s i t y → Wakes t i u [] → Wakes s i u y
+pub wakes-on : {K : Kind} (s t u : Sys K) (i : ℕ) (y : List ℕ) → t .state i ≡ running → HandsOut s i t y → HandsOut t i u [] → HandsOut s i u y
 wakes-on {K} s t u i y run a b =
     record { ready = all y (a .ready); others = λ x z n. b .others x refl n ∙ a .others x z n }
   where

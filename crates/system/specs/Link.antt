@@ -31,7 +31,7 @@ pub record Readied {K : Kind} (s : Sys K) (y : ℕ) : Type 0 where
 
 -- of the words y, handed out by a call of the thread i in s, which leaves u: they are those of the threads that are made ready, and every other
 -- thread but the caller is as it was
-pub record Wakes {K : Kind} (s : Sys K) (i : ℕ) (u : Sys K) (y : List ℕ) : Type 0 where
+pub record HandsOut {K : Kind} (s : Sys K) (i : ℕ) (u : Sys K) (y : List ℕ) : Type 0 where
   pub ready : All (Readied u) y
   pub others : (t : ℕ) → holds t y ≡ false → (i ≡ t → ⊥) → u .state t ≡ s .state t
 
@@ -41,7 +41,7 @@ pub record Steps {K : Kind} (new : K .Num → Bool) {N : Type 0} (L : Layout N) 
   pub code : r ≡ called new s i o k .1
   pub is : Is L num (called new s i o k .0) o h' e'
   pub woken : on L f h e .turn .woken ≡ outcome new s i o k (num (L .num h)) .turn .woken
-  pub wakes : Allowed r (Wakes s i (called new s i o k .0) (on L f h e .turn .woken))
+  pub wakes : Allowed r (HandsOut s i (called new s i o k .0) (on L f h e .turn .woken))
 
 -- an operation on the memory of the object a and on that of the object b, of which m', d' and h', e' are left, with the answer r and the words
 -- y of woken threads, is that the thread i calls j of a and k of b in s, both or neither
@@ -50,7 +50,7 @@ pub record Pairs {K : Kind} (new : K .Num → Bool) {M N : Type 0} (A : Layout M
   pub code : reply r ≡ step new s (both i a j b k) .1
   pub first : Is A f (step new s (both i a j b k) .0) a m' d'
   pub second : Is B g (step new s (both i a j b k) .0) b h' e'
-  pub wakes : Allowed r (Wakes s i (step new s (both i a j b k) .0) y)
+  pub wakes : Allowed r (HandsOut s i (step new s (both i a j b k) .0) y)
 
 -- an operation on the memory of the object o, of which h', e' are left, with the answer r, is the operation x in s
 pub record Turns {K : Kind} (new : K .Num → Bool) {N : Type 0} (L : Layout N) (num : N → K .Num) (s : Sys K) (o : ℕ) (x : Op K) (r : ℤ) (h' e' : List ℕ) : Type 0 where

@@ -11,18 +11,18 @@ use Rattle.mutex.specs.History.{same, counts, begins}
 use Rattle.system.specs.System.{waiting, Slot, vacant, object, Sys, Op, invoke, both, dispatch, yield, expire, spawn, create, unless, called, answers, step, after}
 use Rattle.system.specs.Rtos.{rtos, aMutex, mutexCall, new}
 
--- (1) the owner does not wait on it
+-- (5) the owner does not wait on it
 abbrev pub Apart : Sys rtos → Type 0
 Apart s = (o i : ℕ) (m : Mutex) → s .slot o ≡ object (aMutex m) → m .owner ≡ thread i → s .state i ≡ waiting o → ⊥
 
--- (2) an owner has at least one lock and at most 2^32 - 1; a free mutex has none, and nobody waits on it
+-- (5) an owner has at least one lock and at most 2^32 - 1; a free mutex has none, and nobody waits on it
 abbrev pub Locked : Sys rtos → Type 0
 Locked s = (o i : ℕ) (m : Mutex) → s .slot o ≡ object (aMutex m) → m .owner ≡ thread i → (0 < m .count) × (m .count ≤ maxCount)
 
-abbrev pub Idle : Sys rtos → Type 0
-Idle s = (o : ℕ) (m : Mutex) → s .slot o ≡ object (aMutex m) → m .owner ≡ nobody → (m .count ≡ 0) × (s .queue o ≡ [])
+abbrev pub Free : Sys rtos → Type 0
+Free s = (o : ℕ) (m : Mutex) → s .slot o ≡ object (aMutex m) → m .owner ≡ nobody → (m .count ≡ 0) × (s .queue o ≡ [])
 
--- (3) only its owner's unlock, or its release by a wait at a condition variable, changes the owner
+-- (5) only its owner's unlock, or its release by a wait at a condition variable, changes the owner
 -- the call k of the object a is an unlock or a release of o
 pub data Gives (o a : ℕ) (k : rtos .Call) : Type 0 where
   unlocks : a ≡ o → k ≡ mutexCall unlock → Gives o a k
@@ -50,7 +50,7 @@ pub record IsMutex (s : Sys rtos) (o : ℕ) : Type 0 where
 abbrev pub Stays : Sys rtos → Op rtos → Type 0
 Stays s x = (o : ℕ) (m : Mutex) → s .slot o ≡ object (aMutex m) → IsMutex (step new s x .0) o
 
--- (4) the count is the owner's locks minus its unlocks since it became the owner, which is told by answers and owners alone
+-- (5) the count is the owner's locks minus its unlocks since it became the owner, which is told by answers and owners alone
 -- the mutex in a slot; where there is none, a free one
 abbrev pub seen : Slot (rtos .Num) → Mutex
 seen vacant = free
@@ -93,7 +93,7 @@ depth s (x ∷ past) o = told (after new s past) o x (depth s past o)
 pub record Mutexes (s : Sys rtos) (past : List (Op rtos)) : Type 0 where
   pub apart : Apart (after new s past)
   pub locked : Locked (after new s past)
-  pub idle : Idle (after new s past)
+  pub idle : Free (after new s past)
   pub owned : (x : Op rtos) → Owned (after new s past) x
   pub stays : (x : Op rtos) → Stays (after new s past) x
   pub depth : (o : ℕ) (m : Mutex) → after new s past .slot o ≡ object (aMutex m) → m .count ≡ depth s past o
