@@ -1,0 +1,82 @@
+-- An object that holds something in lent memory: a header and a buffer. What a call does to it.
+use mathlib.Core.Path.{_≡_}
+use mathlib.Core.Bool.{Bool, true, cond}
+use mathlib.Core.List.{List, [], _∷_, _++_}
+use Prim.Native.Nat.{ℕ}
+use lib.Dec.{leb}
+use lib.IntN.{ℤ, negsuc}
+use lib.ListN.{length, drop}
+use Rattle.thread.specs.Code.{ok, einval}
+
+-- no, with a code, and nothing changes; or what it is now, and the answer
+pub data Reply (S : Type 0) : Type 0 where
+  refuse : ℤ → Reply S
+  accept : S → ℤ → Reply S
+
+-- the answer alone
+abbrev pub answer : {S : Type 0} → Reply S → ℤ
+answer (refuse r) = r
+answer (accept s r) = r
+
+-- what is decided on numbers, done to the whole object
+abbrev pub carry : {N S : Type 0} → (N → S) → Reply N → Reply S
+carry f (refuse r) = refuse r
+carry f (accept n r) = accept (f n) r
+
+-- a number that is the decision's, and stays if that is a refusal
+abbrev pub settled : {N : Type 0} → (N → ℕ) → Reply N → ℕ → ℕ
+settled f (refuse r) x = x
+settled f (accept n r) x = f n
+
+-- where an object stands: how many words of the header are its own and, by the header, how many elements of the buffer; what they mean; and
+-- whether they are as they should be
+pub record Place (S : Type 0) : Type 0 where
+  pub words : ℕ
+  pub size : List ℕ → ℕ
+  pub object : List ℕ → List ℕ → S
+  pub formed : List ℕ → List ℕ → Bool
+
+-- the operation f on an object in memory: a malformed one is refused before all else
+abbrev pub reply : {S : Type 0} → Place S → (S → Reply S) → List ℕ → List ℕ → Reply S
+reply P f h b = cond (P .formed h b) (f (P .object h b)) (refuse einval)
+
+-- the object is s now, in memory that was h and b and is h' and b'; what is not its own stays
+pub record Becomes {S : Type 0} (P : Place S) (s : S) (h b h' b' : List ℕ) : Type 0 where
+  pub formed : P .formed h' b' ≡ true
+  pub object : P .object h' b' ≡ s
+  pub beside : drop (P .words) h' ≡ drop (P .words) h
+  pub rest : drop (P .size h') b' ≡ drop (P .size h') b
+  pub long : (length h' ≡ length h) × (length b' ≡ length b)
+
+-- what a reply does to the memory
+abbrev pub After : {S : Type 0} → Place S → Reply S → List ℕ → List ℕ → List ℕ → List ℕ → Type 0
+After P (refuse r) h b h' b' = (h' ≡ h) × (b' ≡ b)
+After P (accept s r) h b h' b' = Becomes P s h b h' b'
+
+-- the operation f was done, with the answer r
+pub record Did {S : Type 0} (P : Place S) (f : S → Reply S) (h b : List ℕ) (r : ℤ) (h' b' : List ℕ) : Type 0 where
+  pub code : r ≡ answer (reply P f h b)
+  pub after : After P (reply P f h b) h b h' b'
+
+-- a number of an object that is as it should be
+abbrev pub looks : {S : Type 0} → Place S → (S → ℤ) → List ℕ → List ℕ → ℤ
+looks P f h b = cond (P .formed h b) (f (P .object h b)) einval
+
+-- what a call hands out: nothing, if the object is malformed
+abbrev pub handed : {S : Type 0} → Place S → (S → List ℕ) → List ℕ → List ℕ → List ℕ
+handed P g h b = cond (P .formed h b) (g (P .object h b)) []
+
+-- l stands first in what was o, and the others stay
+abbrev pub Filled : List ℕ → List ℕ → List ℕ → Type 0
+Filled l o o' = o' ≡ l ++ drop (length l) o
+
+-- the first of l; x, if there is none
+abbrev pub first : ℕ → List ℕ → ℕ
+first x [] = x
+first x (y ∷ l) = y
+
+-- a new object s, if it may be; refused, nothing changes
+pub record Started {S : Type 0} (P : Place S) (may : Bool) (s : S) (h b : List ℕ) (r : ℤ) (h' b' : List ℕ) : Type 0 where
+  pub code : r ≡ cond (leb (P .words) (length h)) (cond may ok einval) einval
+  pub made : r ≡ ok → Becomes P s h b h' b'
+  pub kept : (n : ℕ) → r ≡ negsuc n → (h' ≡ h) × (b' ≡ b)
