@@ -125,8 +125,8 @@ abbrev wanted : List (Op rtos)
 wanted = invoke 3 0 (mutexCall mutex.lock) ∷ locked
 
 -- the wait of 7 hands the mutex to 3
-pub waited : (says wanted (awaits 7) ≡ done (pos 2)) × (at (awaits 7 ∷ wanted) 7 ≡ waiting 1) × (at (awaits 7 ∷ wanted) 3 ≡ ready ok)
-    × (after new bare (awaits 7 ∷ wanted) .slot 0 ≡ object (aMutex (mutex.taken 3))) × (map ident (after new bare (awaits 7 ∷ wanted) .queue 1) ≡ 7 ∷ [])
+pub waited : (at (awaits 7 ∷ wanted) 3 ≡ ready ok) × (after new bare (awaits 7 ∷ wanted) .slot 0 ≡ object (aMutex (mutex.taken 3)))
+    × (at (awaits 7 ∷ wanted) 7 ≡ waiting 1) × (map ident (after new bare (awaits 7 ∷ wanted) .queue 1) ≡ 7 ∷ []) × (says wanted (awaits 7) ≡ done (pos 2))
 unfolding maxWaiters
 waited = (refl, refl, refl, refl, refl)
 

@@ -4,6 +4,7 @@ pub mod Steps
 pub mod Sum
 pub mod Orders
 pub mod Wakes
+pub mod Waits
 pub mod Lives
 pub mod MutexCalls
 pub mod Mutexes

@@ -1,17 +1,24 @@
--- A run of a mutex of the system, computed: the thread 1 locks it twice, 2 waits on it, and 1 unlocks it and waits at a condition variable. Assumes nothing.
+-- Runs of a mutex of the system, computed. First the thread 1 locks it twice, 2 waits on it, and 1 unlocks it and waits at a condition variable. Assumes nothing.
 use mathlib.Core.Path.{_≡_, refl}
 use mathlib.Core.Logic.{inl}
 use mathlib.Core.List.{List, [], _∷_}
+use native.Mathlib.Omega.{arith}
 use Rattle.thread.specs.Code.{ok}
-use Rattle.wait_queue.specs.Queue.{maxWaiters}
-use Rattle.mutex.specs.Mutex.{thread, lock, unlock, release, free, taken}
-use Rattle.condvar.specs.Condvar as condvar
-use Rattle.system.specs.System.{absent, ready, waiting, vacant, object, Sys, Op, invoke, both, dispatch, spawn, create, after}
-use Rattle.system.specs.Rtos.{rtos, aMutex, aCondvar, mutexCall, condvarCall, new}
+use Rattle.wait_queue.specs.Queue.{maxWaiters, entry}
+use Rattle.mutex.specs.Mutex.{thread, lock, unlock, free, taken}
+use Rattle.system.specs.System.{absent, ready, waiting, vacant, object, Sys, Op, invoke, dispatch, spawn, create, after}
+use Rattle.system.specs.Rules.{Start}
+use Rattle.system.specs.Order.{Wakes}
+use Rattle.system.specs.Rtos.{rtos, aMutex, aCondvar, mutexCall, new}
 use Rattle.system.specs.Mutexes.{depth}
+use Rattle.system.specs.Theorems.{waitsWith}
+use Rattle.system.proofs.Theorems.{theorems}
 
 abbrev empty : Sys rtos
 empty = record { prio = λ t. 0; state = λ t. absent; wish = λ t. inl tt; slot = λ o. vacant; queue = λ o. [] }
+
+empty-start : Start empty
+empty-start = record { none = λ o. refl; empty = λ o. refl; awake = λ o t. refl; known = λ t n. absurd (n refl) }
 
 -- the newest operation in front
 abbrev locked : List (Op rtos)
@@ -20,7 +27,7 @@ locked =
     ∷ dispatch 1 ∷ spawn 1 5 ∷ []
 
 abbrev passed : List (Op rtos)
-passed = both 1 7 (mutexCall release) 8 (condvarCall condvar.wait) ∷ invoke 1 7 (mutexCall unlock) ∷ locked
+passed = waitsWith 1 7 8 ∷ invoke 1 7 (mutexCall unlock) ∷ locked
 
 pub two : (after new empty locked .slot 7 ≡ object (aMutex (record { owner = thread 1; count = 2 }))) × (depth empty locked 7 ≡ 2) × (after new empty locked .state 2 ≡ waiting 7)
 unfolding maxWaiters
@@ -30,3 +37,28 @@ two = (refl, refl, refl)
 pub one : (after new empty passed .slot 7 ≡ object (aMutex (taken 2))) × (depth empty passed 7 ≡ 1) × (after new empty passed .state 2 ≡ ready ok) × (after new empty passed .state 1 ≡ waiting 8)
 unfolding maxWaiters
 one = (refl, refl, refl, refl)
+
+-- the thread 4 (priority 5) waits at the condition variable, nobody wants the mutex; then 1 (5) has it, and 3 (5) and 2 (3) want it
+abbrev alone : List (Op rtos)
+alone =
+    waitsWith 4 7 8 ∷ invoke 4 7 (mutexCall lock) ∷ create 8 aCondvar ∷ create 7 (aMutex free) ∷ dispatch 4 ∷ dispatch 3 ∷ dispatch 2 ∷ dispatch 1 ∷ spawn 4 5 ∷ spawn 3 5
+    ∷ spawn 2 3 ∷ spawn 1 5 ∷ []
+
+abbrev wanted : List (Op rtos)
+wanted = invoke 2 7 (mutexCall lock) ∷ invoke 3 7 (mutexCall lock) ∷ invoke 1 7 (mutexCall lock) ∷ alone
+
+pub left-free : (after new empty alone .slot 7 ≡ object (aMutex free)) × (after new empty alone .state 4 ≡ waiting 8)
+unfolding maxWaiters
+left-free = (refl, refl)
+
+-- the wait of 1 hands the mutex to 2; 3 waits on, and 1 stands behind 4
+pub handed : (after new empty (waitsWith 1 7 8 ∷ wanted) .slot 7 ≡ object (aMutex (taken 2))) × (after new empty (waitsWith 1 7 8 ∷ wanted) .state 2 ≡ ready ok)
+    × (after new empty (waitsWith 1 7 8 ∷ wanted) .queue 7 ≡ entry 5 3 ∷ []) × (after new empty (waitsWith 1 7 8 ∷ wanted) .queue 8 ≡ entry 5 4 ∷ entry 5 1 ∷ [])
+    × (after new empty (waitsWith 1 7 8 ∷ wanted) .state 1 ≡ waiting 8)
+unfolding maxWaiters
+handed = (refl, refl, refl, refl, refl)
+
+-- as the theorem says, all of whose premises hold here
+pub handed-too : Wakes new empty wanted (waitsWith 1 7 8) 7 ok (entry 3 2) (entry 5 3 ∷ []) (1 ∷ [])
+unfolding maxWaiters
+handed-too = theorems empty empty-start wanted .first .wait 1 7 8 (entry 3 2) (entry 5 3 ∷ []) refl refl refl refl (omega arith) .0

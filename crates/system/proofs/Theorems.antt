@@ -1,8 +1,9 @@
 -- The theorems hold. Assumes nothing.
-use mathlib.Core.Path.{_≡_, refl}
+use mathlib.Core.Path.{_≡_, refl, sym, ap, _∙_}
 use mathlib.Core.Bool.{Bool, true, false}
+use mathlib.Core.Logic.{inl, inr}
 use mathlib.Core.List.{List}
-use Prim.Native.Nat.{suc}
+use Prim.Native.Nat.{ℕ, suc}
 use native.Mathlib.Omega.{arith}
 use lib.IntN.{pos}
 use lib.ListN.{length, length-map}
@@ -10,15 +11,16 @@ use borrow.Author.Tests.{lt-ltb, le-ltb, eq-eqb}
 use Rattle.seq.specs.List.{any}
 use Rattle.thread.specs.Code.{ok, eagain}
 use Rattle.wait_queue.specs.Queue.{ident}
+use Rattle.wait_queue.specs.Turn.{waits}
 use Rattle.kind.specs.Verdict.{upTo, everybody, keep, wake, allow}
 use Rattle.kind.proofs.Picks.{none-any}
 use Rattle.sem.specs.Sem.{give, reset, counting, woke, incremented, saturated}
 use Rattle.sem.proofs.Law.{is-fine}
-use Rattle.mutex.specs.Mutex.{thread, unlock, taken}
+use Rattle.mutex.specs.Mutex.{Mutex, thread, unlock, release, free, taken}
 use Rattle.mutex.proofs.Law.{free-empty}
-use Rattle.condvar.specs.Condvar.{signal, broadcast}
+use Rattle.condvar.specs.Condvar.{signal, broadcast, wait}
 use Rattle.futex.specs.Futex.{wakeOne, wakeAll}
-use Rattle.system.specs.System.{Sys, Op, after}
+use Rattle.system.specs.System.{object, Sys, Op, after}
 use Rattle.system.specs.Rules.{Fine, Start}
 use Rattle.system.specs.Rtos.{rtos, new, aSem, aMutex, aCondvar, aFutex, semCall, mutexCall, condvarCall, futexCall}
 use Rattle.system.specs.Theorems.{Idle, First, Counted, Everybody, Theorems}
@@ -26,6 +28,7 @@ use Rattle.system.proofs.Steps.{always}
 use Rattle.system.proofs.Sum.{rtos-lawful, rtos-new}
 use Rattle.system.proofs.Orders.{ordered}
 use Rattle.system.proofs.Wakes.{answered, served, wakes-first, wakes-all}
+use Rattle.system.proofs.Waits.{wakes-waits, waits-alone}
 use Rattle.system.proofs.Mutexes.{mutexes-always}
 use Rattle.system.proofs.Lives.{refuses, lives}
 
@@ -47,17 +50,31 @@ module _ (s : Sys rtos) (b : Start s) (past : List (Op rtos)) where
   fine : Fine u
   fine = always new rtos-new rtos-lawful s b past
 
+  -- no object is a mutex and a condition variable
+  two-kinds : {a c : ℕ} {m : Mutex} → u .slot a ≡ object (aMutex m) → u .slot c ≡ object aCondvar → a ≡ c → ⊥
+  two-kinds {a} {c} {m} h g e =
+      let v : object (aMutex m) ≡ object aCondvar = sym h ∙ ap (u .slot) e ∙ g in
+      absurd (let x : _≡_ {A = ℕ} 0 1 = cc in omega arith)
+
   first : First s past
   first =
       record {
-        give = λ i o x q n h r e. wakes-first new rtos-new rtos-lawful s b past i o (semCall give) (aSem n) h r (aSem n) (λ t. ok) 0 x q e (rw e);
+        give = λ i o x q n h r e. wakes-first new rtos-new rtos-lawful s b past o i (semCall give) (aSem n) h r (aSem n) (λ t. ok) 0 x q e (rw e);
         unlock =
             λ i o x q h r e. (
-              wakes-first new rtos-new rtos-lawful s b past i o (mutexCall unlock) (aMutex (record { owner = thread i; count = 1 })) h r (aMutex (taken (ident x))) (λ t. ok) 2 x q e (rw (eq-eqb i i refl, e)),
+              wakes-first new rtos-new rtos-lawful s b past o i (mutexCall unlock) (aMutex (record { owner = thread i; count = 1 })) h r (aMutex (taken (ident x))) (λ t. ok) 2 x q e (rw (eq-eqb i i refl, e)),
               rw (served new u fine i o (mutexCall unlock) (aMutex (record { owner = thread i; count = 1 })) h r (allow (aMutex (taken (ident x))) (wake (upTo 1) (λ t. ok)) (pos 2)) 2 (rw (eq-eqb i i refl, e)) refl, eq-eqb o o refl) refl,
             );
-        signal = λ i o x q h r e. wakes-first new rtos-new rtos-lawful s b past i o (condvarCall signal) aCondvar h r aCondvar (λ t. ok) 1 x q e (rw e);
-        wake = λ i o x q f h r e. wakes-first new rtos-new rtos-lawful s b past i o (futexCall wakeOne) (aFutex f) h r (aFutex f) (λ t. ok) 1 x q e (rw e);
+        signal = λ i o x q h r e. wakes-first new rtos-new rtos-lawful s b past o i (condvarCall signal) aCondvar h r aCondvar (λ t. ok) 1 x q e (rw e);
+        wake = λ i o x q f h r e. wakes-first new rtos-new rtos-lawful s b past o i (futexCall wakeOne) (aFutex f) h r (aFutex f) (λ t. ok) 1 x q e (rw e);
+        wait =
+            λ i a c x q h g r e l.
+            wakes-waits new rtos-new rtos-lawful s b past i a (mutexCall release) (aMutex (record { owner = thread i; count = 1 })) (aMutex (taken (ident x))) c (condvarCall wait) aCondvar (inr (inr (inl tt))) waits 2 (λ v. refl) h g (two-kinds h g) r l
+            (λ t. ok) x q e (rw (eq-eqb i i refl, e));
+        waitAlone =
+            λ i a c h g r e l.
+            waits-alone new rtos-new rtos-lawful s b past i a (mutexCall release) (aMutex (record { owner = thread i; count = 1 })) (aMutex free) c (condvarCall wait) aCondvar (inr (inr (inl tt))) waits 1 (λ v. refl) h g (two-kinds h g) r l
+            (rw (eq-eqb i i refl, e));
       }
 
   counted : Counted s past
@@ -79,17 +96,17 @@ module _ (s : Sys rtos) (b : Start s) (past : List (Op rtos)) where
       record {
         reset =
             λ i o n h r. (
-              wakes-all new rtos-new rtos-lawful s b past i o (semCall reset) (aSem n) h r (aSem (counting 0 n)) (λ t. eagain) (length (u .queue o)) (rw (length-map (u .queue o) ident)),
+              wakes-all new rtos-new rtos-lawful s b past o i (semCall reset) (aSem n) h r (aSem (counting 0 n)) (λ t. eagain) (length (u .queue o)) (rw (length-map (u .queue o) ident)),
               answered new u fine i o (semCall reset) (aSem n) h r (allow (aSem (counting 0 n)) (wake everybody (λ t. eagain)) (pos (length (u .queue o)))) (rw (length-map (u .queue o) ident)),
             );
         broadcast =
             λ i o h r. (
-              wakes-all new rtos-new rtos-lawful s b past i o (condvarCall broadcast) aCondvar h r aCondvar (λ t. ok) (length (u .queue o)) (rw (length-map (u .queue o) ident)),
+              wakes-all new rtos-new rtos-lawful s b past o i (condvarCall broadcast) aCondvar h r aCondvar (λ t. ok) (length (u .queue o)) (rw (length-map (u .queue o) ident)),
               answered new u fine i o (condvarCall broadcast) aCondvar h r (allow aCondvar (wake everybody (λ t. ok)) (pos (length (u .queue o)))) (rw (length-map (u .queue o) ident)),
             );
         wake =
             λ i o f h r. (
-              wakes-all new rtos-new rtos-lawful s b past i o (futexCall wakeAll) (aFutex f) h r (aFutex f) (λ t. ok) (length (u .queue o)) (rw (length-map (u .queue o) ident)),
+              wakes-all new rtos-new rtos-lawful s b past o i (futexCall wakeAll) (aFutex f) h r (aFutex f) (λ t. ok) (length (u .queue o)) (rw (length-map (u .queue o) ident)),
               answered new u fine i o (futexCall wakeAll) (aFutex f) h r (allow (aFutex f) (wake everybody (λ t. ok)) (pos (length (u .queue o)))) (rw (length-map (u .queue o) ident)),
             );
       }

@@ -1,27 +1,29 @@
 -- Who is woken, by a call that wakes one and by one that wakes all. Assumes nothing.
 use mathlib.Core.Path.{_≡_, refl, sym, ap, _∙_}
 use mathlib.Core.Bool.{Bool, true, false, cond}
-use mathlib.Core.List.{List, _∷_}
+use mathlib.Core.List.{List, [], _∷_}
 use Prim.Native.Nat.{ℕ, _<_}
 use native.Mathlib.Omega.{arith}
 use lib.IntN.{ℤ, pos}
 use borrow.Author.Tests.{eq-eqb, ne-eqb}
+use Rattle.seq.specs.List.{All}
 use Rattle.thread.specs.Caller.{callerCode}
 use Rattle.wait_queue.specs.Queue.{ident, holds}
 use Rattle.wait_queue.proofs.Answers.{right-caller}
 use Rattle.kind.specs.Verdict.{upTo, everybody, wake, Verdict, allow}
 use Rattle.kind.specs.Kind.{Kind, Lawful}
 use Rattle.kind.specs.Object.{Out, thread, carried}
-use Rattle.system.specs.System.{absent, running, ready, waiting, number, Slot, object, Sys, Op, serve, outcome, verdict, visited, called, after}
+use Rattle.system.specs.System.{absent, running, ready, waiting, number, Slot, object, Sys, Op, invoke, serve, outcome, verdict, visited, called, after}
 use Rattle.system.specs.Rules.{times, on, Fine, Start}
-use Rattle.system.specs.Order.{Wakes, WakesAll}
+use Rattle.system.specs.Order.{Before, age, Wakes, WakesAll}
 use Rattle.system.proofs.Times.{held, unheld, on-is}
 use Rattle.system.proofs.Calls.{granted}
 use Rattle.system.proofs.Steps.{Newly, always}
 use Rattle.system.proofs.Orders.{ordered}
 
 module _ {K : Kind} (new : K .Num → Bool) (u : Sys K) (g : Fine u) (i o : ℕ) (k : K .Call) (n : K .Num) (h : u .slot o ≡ object n) (r : u .state i ≡ running) where
-  there : u .state i ≡ absent → ⊥
+  -- it is there
+  pub there : u .state i ≡ absent → ⊥
   there a = let v : running ≡ absent = sym r ∙ a in absurd (let y : _≡_ {A = ℕ} 0 1 = cc in omega arith)
 
   fit : callerCode (u .prio i) (number (u .state i)) ≡ pos 0
@@ -38,27 +40,32 @@ module _ {K : Kind} (new : K .Num → Bool) (u : Sys K) (g : Fine u) (i o : ℕ)
   pub answered : (d : Verdict (K .Num) (K .Wish)) → verdict new u i o k n ≡ d → called new u i o k .1 ≡ carried (thread i (u .prio i) 1) d n (u .queue o) .turn .code
   answered d y = ap (λ (x : Slot (K .Num)). visited new x u i o k .1) h ∙ ap (λ (x : Out (K .Num)). x .turn .code) (decided d y)
 
-module _ {K : Kind} (new : K .Num → Bool) (made : Newly K new) (law : Lawful K) (s : Sys K) (b : Start s) (past : List (Op K)) (i o : ℕ) (k : K .Call) (n : K .Num) where
+module _ {K : Kind} (new : K .Num → Bool) (made : Newly K new) (law : Lawful K) (s : Sys K) (b : Start s) (past : List (Op K)) (o : ℕ) where
   abbrev u : Sys K
   u = after new s past
 
   fine : Fine u
   fine = always new made law s b past
 
-  module _ (h : u .slot o ≡ object n) (r : u .state i ≡ running) (m : K .Num) (f : ℕ → ℤ) (c : ℕ) where
+  -- the first of a queue waits there, and is to be woken before the others
+  pub leads : (x : ℕ) (q : List ℕ) → u .queue o ≡ x ∷ q → (u .state (ident x) ≡ waiting o) × All (Before (age new s past o) x) q
+  leads x q e =
+      let p : times (ident x) (u .queue o) ≡ on o (u .state (ident x)) = fine .placed o (ident x) in
+      let l : 0 < times (ident x) (u .queue o) = rw (e, eq-eqb (ident x) (ident x) refl) (omega arith) in
+      (on-is o (u .state (ident x)) (omega (arith, p, l)), (rw e at (ordered new made law s b past o)) .0)
+
+  module _ (i : ℕ) (k : K .Call) (n : K .Num) (h : u .slot o ≡ object n) (r : u .state i ≡ running) (m : K .Num) (f : ℕ → ℤ) (c : ℕ) where
     -- one
-    pub wakes-first : (x : ℕ) (q : List ℕ) → u .queue o ≡ x ∷ q → verdict new u i o k n ≡ allow m (wake (upTo 1) f) (pos c) → Wakes new s past i o k (f (ident x)) x q
+    pub wakes-first : (x : ℕ) (q : List ℕ) → u .queue o ≡ x ∷ q → verdict new u i o k n ≡ allow m (wake (upTo 1) f) (pos c) → Wakes new s past (invoke i o k) o (f (ident x)) x q []
     wakes-first x q e y =
         let d : Verdict (K .Num) (K .Wish) = allow m (wake (upTo 1) f) (pos c) in
         let v = served new u fine i o k n h r d c y refl in
-        let p : times (ident x) (u .queue o) ≡ on o (u .state (ident x)) = fine .placed o (ident x) in
-        let l : 0 < times (ident x) (u .queue o) = rw (e, eq-eqb (ident x) (ident x) refl) (omega arith) in
         record {
-          waited = on-is o (u .state (ident x)) (omega (arith, p, l));
-          best = (rw e at (ordered new made law s b past o)) .0;
+          waited = leads x q e .0;
+          best = leads x q e .1;
           stay = rw (v, eq-eqb o o refl, e);
           gets = rw (v, e, eq-eqb (ident x) (ident x) refl);
-          others = λ t a. rw (v, e, ne-eqb (ident x) t a);
+          others = λ t a. rw (v, e, ne-eqb (ident x) t (a .0));
         }
 
     -- all

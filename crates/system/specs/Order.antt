@@ -7,7 +7,7 @@ use Prim.Native.Nat.{ℕ, suc, _<_}
 use lib.Dec.{ltb}
 use lib.IntN.{ℤ}
 use Rattle.seq.specs.List.{All, Sorted}
-use Rattle.wait_queue.specs.Queue.{prio, ident, woken}
+use Rattle.wait_queue.specs.Queue.{entry, prio, ident, woken, joined}
 use Rattle.kind.specs.Kind.{Kind}
 use Rattle.system.specs.System.{ready, waiting, Sys, Op, invoke, after, outcome}
 use Rattle.system.specs.Rules.{on}
@@ -26,16 +26,26 @@ module _ {K : Kind} (new : K .Num → Bool) where
   abbrev pub Ordered : Sys K → List (Op K) → Type 0
   Ordered s past = (o : ℕ) → Sorted (Before (age s past o)) (after new s past .queue o)
 
-  -- (3), (4) after the history the thread i calls k of the object o: the thread of x is woken, with the result r, and nobody else
-  pub record Wakes (s : Sys K) (past : List (Op K)) (i o : ℕ) (k : K .Call) (r : ℤ) (x : ℕ) (q : List ℕ) : Type 0 where
+  -- in the operation y nobody's state changes but those of the threads l
+  abbrev pub Only : Sys K → List (Op K) → Op K → List ℕ → Type 0
+  Only s past y l = (t : ℕ) → All (λ i. i ≡ t → ⊥) l → after new s (y ∷ past) .state t ≡ after new s past .state t
+
+  -- (3), (4) after the history the operation y wakes the thread of x, which waited on the object o, with the result r; l: whose state changes too
+  pub record Wakes (s : Sys K) (past : List (Op K)) (y : Op K) (o : ℕ) (r : ℤ) (x : ℕ) (q l : List ℕ) : Type 0 where
     -- it waited there
     pub waited : after new s past .state (ident x) ≡ waiting o
     -- all others that waited there come after it, and wait on
     pub best : All (Before (age s past o) x) q
-    pub stay : after new s (invoke i o k ∷ past) .queue o ≡ q
-    -- it is ready, with its result; nobody else's state changes
-    pub gets : after new s (invoke i o k ∷ past) .state (ident x) ≡ ready r
-    pub others : (t : ℕ) → (ident x ≡ t → ⊥) → after new s (invoke i o k ∷ past) .state t ≡ after new s past .state t
+    pub stay : after new s (y ∷ past) .queue o ≡ q
+    -- it is ready, with its result; nobody else's state changes, but those of l
+    pub gets : after new s (y ∷ past) .state (ident x) ≡ ready r
+    pub others : Only s past y (ident x ∷ l)
+
+  -- (3) in the operation y the thread i begins to wait on the object o
+  pub record Waits (s : Sys K) (past : List (Op K)) (y : Op K) (i o : ℕ) : Type 0 where
+    pub waits : after new s (y ∷ past) .state i ≡ waiting o
+    -- behind all of equal or higher priority; the others stand as they stood
+    pub place : after new s (y ∷ past) .queue o ≡ joined (entry (after new s past .prio i) i) (after new s past .queue o)
 
   -- (7) all that waited are woken, each with its result, in the order of the queue; nobody else's state changes
   pub record WakesAll (s : Sys K) (past : List (Op K)) (i o : ℕ) (k : K .Call) (n : K .Num) (r : ℕ → ℤ) : Type 0 where

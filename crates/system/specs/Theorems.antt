@@ -6,14 +6,14 @@ use Prim.Native.Nat.{ℕ, suc, _<_, _≤_}
 use lib.IntN.{pos}
 use lib.ListN.{length}
 use Rattle.thread.specs.Code.{ok, eagain}
-use Rattle.wait_queue.specs.Queue.{ident}
+use Rattle.wait_queue.specs.Queue.{maxWaiters, ident}
 use Rattle.sem.specs.Sem.{Sem, give, reset}
-use Rattle.mutex.specs.Mutex.{Mutex, nobody, thread, unlock, taken}
-use Rattle.condvar.specs.Condvar.{signal, broadcast}
+use Rattle.mutex.specs.Mutex.{Mutex, nobody, thread, unlock, release, free, taken}
+use Rattle.condvar.specs.Condvar.{signal, broadcast, wait}
 use Rattle.futex.specs.Futex.{Futex, wakeOne, wakeAll}
-use Rattle.system.specs.System.{running, object, Sys, Op, invoke, called, step, after}
+use Rattle.system.specs.System.{running, object, Sys, Op, invoke, both, called, step, after}
 use Rattle.system.specs.Rules.{Placed, Kept}
-use Rattle.system.specs.Order.{Ordered, Wakes, WakesAll}
+use Rattle.system.specs.Order.{Ordered, Only, Wakes, Waits, WakesAll}
 use Rattle.system.specs.Life.{Life, Refuses}
 use Rattle.system.specs.Mutexes.{Mutexes}
 use Rattle.system.specs.Rtos.{rtos, new, aSem, aMutex, aCondvar, aFutex, semCall, mutexCall, condvarCall, futexCall}
@@ -25,18 +25,32 @@ pub record Idle (s : Sys rtos) : Type 0 where
   -- nobody waits at a free mutex
   pub mutex : (o : ℕ) (m : Mutex) → s .slot o ≡ object (aMutex m) → m .owner ≡ nobody → s .queue o ≡ []
 
--- (3), (4) a give, a last unlock, a signal and a wake-up of one wake the first, with 0
+-- the thread i gives the mutex a back and waits at the condition variable b
+abbrev pub waitsWith : ℕ → ℕ → ℕ → Op rtos
+waitsWith i a b = both i a (mutexCall release) b (condvarCall wait)
+
+-- (3), (4) a give, a last unlock, a signal, a wake-up of one and a wait with a mutex wake the first, with 0
 pub record First (s : Sys rtos) (past : List (Op rtos)) : Type 0 where
   pub give : (i o x : ℕ) (q : List ℕ) (n : Sem) → after new s past .slot o ≡ object (aSem n) → after new s past .state i ≡ running → after new s past .queue o ≡ x ∷ q
-      → Wakes new s past i o (semCall give) ok x q
+      → Wakes new s past (invoke i o (semCall give)) o ok x q []
   -- the last unlock hands the mutex over, with one lock
   pub unlock : (i o x : ℕ) (q : List ℕ) → after new s past .slot o ≡ object (aMutex (record { owner = thread i; count = 1 })) → after new s past .state i ≡ running
       → after new s past .queue o ≡ x ∷ q
-      → Wakes new s past i o (mutexCall unlock) ok x q × (after new s (invoke i o (mutexCall unlock) ∷ past) .slot o ≡ object (aMutex (taken (ident x))))
+      → Wakes new s past (invoke i o (mutexCall unlock)) o ok x q [] × (after new s (invoke i o (mutexCall unlock) ∷ past) .slot o ≡ object (aMutex (taken (ident x))))
   pub signal : (i o x : ℕ) (q : List ℕ) → after new s past .slot o ≡ object aCondvar → after new s past .state i ≡ running → after new s past .queue o ≡ x ∷ q
-      → Wakes new s past i o (condvarCall signal) ok x q
+      → Wakes new s past (invoke i o (condvarCall signal)) o ok x q []
   pub wake : (i o x : ℕ) (q : List ℕ) (f : Futex) → after new s past .slot o ≡ object (aFutex f) → after new s past .state i ≡ running → after new s past .queue o ≡ x ∷ q
-      → Wakes new s past i o (futexCall wakeOne) ok x q
+      → Wakes new s past (invoke i o (futexCall wakeOne)) o ok x q []
+  -- the wait of a condition variable hands its mutex over, with one lock, and the caller waits
+  pub wait : (i a b x : ℕ) (q : List ℕ) → after new s past .slot a ≡ object (aMutex (record { owner = thread i; count = 1 })) → after new s past .slot b ≡ object aCondvar
+      → after new s past .state i ≡ running → after new s past .queue a ≡ x ∷ q → length (after new s past .queue b) < maxWaiters
+      → Wakes new s past (waitsWith i a b) a ok x q (i ∷ []) × Waits new s past (waitsWith i a b) i b
+      × (after new s (waitsWith i a b ∷ past) .slot a ≡ object (aMutex (taken (ident x))))
+  -- with nobody waiting for the mutex it is free
+  pub waitAlone : (i a b : ℕ) → after new s past .slot a ≡ object (aMutex (record { owner = thread i; count = 1 })) → after new s past .slot b ≡ object aCondvar
+      → after new s past .state i ≡ running → after new s past .queue a ≡ [] → length (after new s past .queue b) < maxWaiters
+      → Only new s past (waitsWith i a b) (i ∷ []) × Waits new s past (waitsWith i a b) i b
+      × (after new s (waitsWith i a b ∷ past) .slot a ≡ object (aMutex free))
 
 -- (4) no wake-up is lost: a give to nobody raises the count, unless it is at its limit; a give to somebody leaves it
 pub record Counted (s : Sys rtos) (past : List (Op rtos)) : Type 0 where
