@@ -21,7 +21,7 @@ use Rattle.kind.specs.Verdict.{Pick, gone, left, keep, park, wake, Verdict, den
 use Rattle.kind.specs.Kind.{Kind, Lawful, Rightly, Sound, Right}
 use Rattle.kind.specs.Object.{Out, refused, thread, carried}
 use Rattle.kind.proofs.Picks.{any-joined, any-map, left-sub, left-map}
-use Rattle.system.specs.System.{State, absent, running, ready, waiting, number, Slot, vacant, object, Sys, upd, unless, serve, outcome, verdict, visited, called}
+use Rattle.system.specs.System.{State, absent, running, ready, waiting, number, Slot, vacant, object, Sys, upd, states, unless, serve, outcome, verdict, visited, called}
 use Rattle.system.specs.Rules.{times, on, Fine}
 use Rattle.system.proofs.Times.{times-joined, times-pick, held, unheld, not-held, on-is, on-one, all-list, list-all}
 
@@ -101,22 +101,25 @@ module _ {K : Kind} (new : K .Num → Bool) (s : Sys K) (g : Fine s) (i o : ℕ)
     abbrev some : Verdict (K .Num) (K .Wish)
     some = allow m (wake p f) r
 
-    here-woken : (t : ℕ) (b : Bool) → holds t (gone ident p q) ≡ b → times t (left ident p q) ≡ on o (cond b (ready (f t)) (s .state t))
-    here-woken t true z = omega (arith, held t (gone ident p q) z, times-pick t p q, g .placed o t, on-one o (s .state t))
-    here-woken t false z = omega (arith, unheld t (gone ident p q) z, times-pick t p q, g .placed o t)
+    -- the states then
+    abbrev now : ℕ → State
+    now = states {W = K .Wish} (wake p f) i o q (s .state)
 
-    there-woken : (x t : ℕ) → (o ≡ x → ⊥) → (b : Bool) → holds t (gone ident p q) ≡ b → times t (s .queue x) ≡ on x (cond b (ready (f t)) (s .state t))
-    there-woken x t e true z =
-        let w : s .state t ≡ waiting o = on-is o (s .state t) (omega (arith, held t (gone ident p q) z, times-pick t p q, g .placed o t)) in
-        g .placed x t ∙ rw (w, ne-eqb o x e)
-    there-woken x t e false z = g .placed x t
+    here-woken : (t : ℕ) (b : Bool) → holds t (gone ident p q) ≡ b → times t (left ident p q) ≡ on o (now t)
+    here-woken t true z = rw z (omega (arith, held t (gone ident p q) z, times-pick t p q, g .placed o t, on-one o (s .state t)))
+    here-woken t false z = rw z (omega (arith, unheld t (gone ident p q) z, times-pick t p q, g .placed o t))
 
-    known-woken : (t : ℕ) (b : Bool) → holds t (gone ident p q) ≡ b → (cond b (ready (f t)) (s .state t) ≡ absent → ⊥) → s .state t ≡ absent → ⊥
-    known-woken t true z c = λ a.
-        let w : s .state t ≡ waiting o = on-is o (s .state t) (omega (arith, held t (gone ident p q) z, times-pick t p q, g .placed o t)) in
-        let v : waiting o ≡ absent = sym w ∙ a in
-        absurd (let x : _≡_ {A = ℕ} 0 1 = cc in omega arith)
-    known-woken t false z c = c
+    -- who is woken waited here
+    waited : (t : ℕ) → holds t (gone ident p q) ≡ true → s .state t ≡ waiting o
+    waited t z = on-is o (s .state t) (omega (arith, held t (gone ident p q) z, times-pick t p q, g .placed o t))
+
+    there-woken : (x t : ℕ) → (o ≡ x → ⊥) → (b : Bool) → holds t (gone ident p q) ≡ b → times t (s .queue x) ≡ on x (now t)
+    there-woken x t e true z = g .placed x t ∙ rw (z, waited t z, ne-eqb o x e)
+    there-woken x t e false z = g .placed x t ∙ rw z
+
+    known-woken : (t : ℕ) (b : Bool) → holds t (gone ident p q) ≡ b → (now t ≡ absent → ⊥) → s .state t ≡ absent → ⊥
+    known-woken t true z c = λ a. let v : waiting o ≡ absent = sym (waited t z) ∙ a in absurd (let x : _≡_ {A = ℕ} 0 1 = cc in omega arith)
+    known-woken t false z c = rw z at c
 
     wakes : K .formed m (any (left ident p q)) ≡ true → Rightly K m (s .wish) (map ident (left ident p q)) → Fine (serve new s i o some (carried (thread i (s .prio i) 1) some n q))
     wakes c k =
