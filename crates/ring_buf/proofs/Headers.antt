@@ -1,12 +1,13 @@
 -- A ring's header and buffer: what is tested, and what then holds. Assumes nothing.
 use mathlib.Core.Path.{_≡_, refl, sym, ap, _∙_}
 use mathlib.Core.Bool.{Bool, true, false, cond}
-use mathlib.Core.List.{List}
+use mathlib.Core.List.{List, [], _∷_}
 use Prim.Native.Nat.{ℕ, _≤_, _<_}
 use native.Mathlib.Omega.{arith}
 use borrow.Author.Tests.{lt-ltb, le-ltb, lt-leb, le-leb, leb-true, ltb-true}
 use lib.Dec.{ltb, leb}
 use lib.ListN.{length, getD}
+use Rattle.store.proofs.Laws.{both-true}
 use Rattle.ring_buf.specs.Bytes.{sound}
 
 module _ (h b : List ℕ) where
@@ -28,5 +29,35 @@ module _ (h b : List ℕ) where
   pub is-room : 3 ≤ length h → getD h 1 0 < getD h 0 0 → getD h 2 0 ≤ getD h 0 0 → sound h b ≡ leb (getD h 0 0) (length b)
   is-room w s f = rw (le-leb 3 (length h) w, lt-ltb (getD h 1 0) (getD h 0 0) s, le-leb (getD h 2 0) (getD h 0 0) f)
 
+  -- a test is passed, or failed
+  pub from-sound : sound h b ≡ true → Sound
+  from-sound e =
+      let x = both-true (leb 3 (length h)) _ e in
+      let y = both-true (cond (ltb (getD h 1 0) (getD h 0 0)) (leb (getD h 2 0) (getD h 0 0)) false) _ (x .1) in
+      let z = both-true (ltb (getD h 1 0) (getD h 0 0)) _ (y .0) in
+      record {
+        words = leb-true 3 (length h) (x .0);
+        start = ltb-true (getD h 1 0) (getD h 0 0) (z .0);
+        size = leb-true (getD h 2 0) (getD h 0 0) (z .1);
+        room = leb-true (getD h 0 0) (length b) (y .1);
+      }
+
   pub is-sound : Sound → sound h b ≡ true
   is-sound s = is-room (s .words) (s .start) (s .size) ∙ le-leb (getD h 0 0) (length b) (s .room)
+
+-- the words of a ring's header
+pub record Words (h b : List ℕ) : Type 0 where
+  pub c : ℕ
+  pub t : ℕ
+  pub n : ℕ
+  pub rest : List ℕ
+  pub is : h ≡ c ∷ t ∷ n ∷ rest
+  pub start : t < c
+  pub size : n ≤ c
+  pub room : c ≤ length b
+
+pub words : (h b : List ℕ) → Sound h b → Words h b
+words [] b s = absurd (omega (arith, s .words))
+words (c ∷ []) b s = absurd (omega (arith, s .words))
+words (c ∷ t ∷ []) b s = absurd (omega (arith, s .words))
+words (c ∷ t ∷ n ∷ rest) b s = record { c = c; t = t; n = n; rest = rest; is = refl; start = s .start; size = s .size; room = s .room }

@@ -1,3 +1,4 @@
 pub mod Rings
 pub mod Parts
 pub mod Headers
+pub mod Answers

@@ -175,65 +175,83 @@ module _ {A : Type 0} where
       ap (λ (y : ℕ). drop y (paste b a s k)) (sym q) ∙ sym (drop-drop (n - (a + k)) (a + k) (paste b a s k)) ∙ ap (drop (n - (a + k))) (drop-paste b a s k (omega arith) have)
       ∙ drop-drop (n - (a + k)) (a + k) b ∙ ap (λ (y : ℕ). drop y b) q
 
-  -- how much is held, and how much is free
+  -- the ring of a buffer of c
+  module _ (c t u : ℕ) (b : List A) (n : length b ≡ c) (h : t < c) (room : u ≤ c) where
+    abbrev R : List A
+    R = turn t b
+
+    long : length R ≡ c
+    long = length-turn t b (omega arith) ∙ n
+
+    again : (k : ℕ) → k ≤ c → turn (wrap (t + k) c) b ≡ drop k R ++ take k R
+    again k f = ap (λ (m : ℕ). turn (wrap (t + k) m) b) (sym n) ∙ sym (turn-turn t k b (omega arith) (omega arith)) ∙ turned k R
+
+    pub held-long : length (take u (turn t b)) ≡ u
+    held-long = length-take u (turn t b) ∙ omega (arith, long)
+
+    pub spare-long : length (drop u (turn t b)) ≡ c - u
+    spare-long = length-drop u (turn t b) ∙ ap (λ (m : ℕ). m - u) long
+
+    -- what was written behind is held
+    pub appended : (k : ℕ) (b' s : List A) → u + k ≤ c → k ≤ length s → turn t b' ≡ paste (turn t b) u s k → ring c t (u + k) b' ≡ append (take k s) (ring c t u b)
+    appended k b' s f have e =
+        let r : u ≤ length R = omega (arith, long) in
+        let m : length (take k s) ≡ k = length-take k s ∙ omega arith in
+        let x : take (u + k) (turn t b') ≡ take u R ++ take k s = ap (take (u + k)) e ∙ take-paste R u s k r have in
+        let y : drop (u + k) (turn t b') ≡ drop (length (take k s)) (drop u R) =
+        ap (drop (u + k)) e ∙ drop-paste R u s k r have ∙ sym (drop-drop k u R) ∙ ap (λ (j : ℕ). drop j (drop u R)) (sym m) in
+        λ i. record { capacity = c; start = t; held = x i; spare = y i }
+
+    -- what is read from further on
+    pub left : (k : ℕ) → k ≤ u → ring c (wrap (t + k) c) (u - k) b ≡ leave k (ring c t u b)
+    left k have =
+        let j : u - k ≤ length (drop k R) = simp length-drop (omega (arith, long)) in
+        let v : k + (u - k) ≡ u = omega arith in
+        let e = again k (omega arith) in
+        let x : take (u - k) (turn (wrap (t + k) c) b) ≡ drop k (take u R) = ap (take (u - k)) e ∙ take-append-le (u - k) (drop k R) (take k R) j ∙ sym (drop-take k u R) in
+        let y : drop (u - k) (turn (wrap (t + k) c) b) ≡ drop u R ++ take k (take u R) =
+        ap (drop (u - k)) e ∙ drop-append-le (u - k) (drop k R) (take k R) j ∙ (λ i. (drop-drop (u - k) k R ∙ ap (λ (m : ℕ). drop m R) v) i ++ sym (take-take k u R have) i) in
+        λ i. record { capacity = c; start = wrap (t + k) c; held = x i; spare = y i }
+
+    -- what was written before is held
+    pub led : (x : A) → u < c → let p = wrap (t + (c - 1)) c in ring c p (suc u) (paste b p (x ∷ []) 1) ≡ lead x (ring c t u b)
+    led x f =
+        let p = wrap (t + (c - 1)) c in
+        let q : p < c = wrap-below (t + (c - 1)) c (omega arith) in
+        let z : p + 0 ≡ p = omega arith in
+        let one : length (drop (c - 1) R) ≡ 1 = length-drop (c - 1) R ∙ omega (arith, long) in
+        let w : p ≡ wrap (p + 0) (length b) = sym (ap (λ (y : ℕ). wrap y (length b)) z ∙ wrap-low p (length b) (omega arith)) in
+        let e : turn p (paste b p (x ∷ []) 1) ≡ x ∷ take (c - 1) R =
+        turn-paste p 0 1 b (x ∷ []) (omega arith) (omega arith) (omega arith) p w (omega arith) ∙ ap (λ (l : List A). x ∷ drop 1 l) (again (c - 1) (omega arith))
+        ∙ ap (λ (l : List A). x ∷ l) (drop-at (drop (c - 1) R) (take (c - 1) R) 1 one) in
+        let s : take (suc u) (turn p (paste b p (x ∷ []) 1)) ≡ x ∷ take u R = ap (take (suc u)) e ∙ ap (λ (l : List A). x ∷ l) (take-take u (c - 1) R (omega arith)) in
+        let m : c - 1 - u ≡ length (drop u R) - 1 = omega (arith, spare-long) in
+        let y : drop (suc u) (turn p (paste b p (x ∷ []) 1)) ≡ take (length (drop u R) - 1) (drop u R) =
+        ap (drop (suc u)) e ∙ drop-take u (c - 1) R ∙ ap (λ (k : ℕ). take k (drop u R)) m in
+        λ i. record { capacity = c; start = p; held = s i; spare = y i }
+
+    pub cleared : ring c 0 0 b ≡ clear (ring c t u b)
+    cleared =
+        let z : wrap (t + (c - t)) (length b) ≡ 0 = wrap-high (t + (c - t)) (length b) (omega arith) ∙ omega arith in
+        let y : turn 0 b ≡ turn (c - t) (take u (turn t b) ++ drop u (turn t b)) =
+        sym (ap (turn (c - t)) (take-append-drop u (turn t b)) ∙ turn-turn t (c - t) b (omega arith) (omega arith) ∙ ap (λ (x : ℕ). turn x b) z) in
+        λ i. record { capacity = c; start = 0; held = []; spare = y i }
+
+  -- the same of a whole buffer
   module _ (t u : ℕ) (b : List A) (h : t < length b) (room : u ≤ length b) where
     pub length-held : length (take u (turn t b)) ≡ u
-    length-held = length-take u (turn t b) ∙ omega (arith, length-turn t b (omega arith))
+    length-held = held-long (length b) t u b refl h room
 
     pub length-spare : length (drop u (turn t b)) ≡ length b - u
-    length-spare = length-drop u (turn t b) ∙ ap (λ (n : ℕ). n - u) (length-turn t b (omega arith))
+    length-spare = spare-long (length b) t u b refl h room
 
-  -- what was written behind is held
   pub ring-append : (t u k : ℕ) (b b' s : List A) → t < length b → u + k ≤ length b → k ≤ length s → turn t b' ≡ paste (turn t b) u s k
       → ring (length b) t (u + k) b' ≡ append (take k s) (ring (length b) t u b)
-  ring-append t u k b b' s h room have e =
-      let R = turn t b in
-      let r : u ≤ length R = omega (arith, length-turn t b (omega arith)) in
-      let n : length (take k s) ≡ k = length-take k s ∙ omega arith in
-      let x : take (u + k) (turn t b') ≡ take u R ++ take k s = ap (take (u + k)) e ∙ take-paste R u s k r have in
-      let y : drop (u + k) (turn t b') ≡ drop (length (take k s)) (drop u R) =
-      ap (drop (u + k)) e ∙ drop-paste R u s k r have ∙ sym (drop-drop k u R) ∙ ap (λ (m : ℕ). drop m (drop u R)) (sym n) in
-      λ i. record { capacity = length b; start = t; held = x i; spare = y i }
+  ring-append t u k b b' s h room have e = appended (length b) t u b refl h (omega arith) k b' s room have e
 
-  -- what is read from further on
   pub ring-leave : (t u k : ℕ) (b : List A) → t < length b → u ≤ length b → k ≤ u → ring (length b) (wrap (t + k) (length b)) (u - k) b ≡ leave k (ring (length b) t u b)
-  ring-leave t u k b h room have =
-      let R = turn t b in
-      let n : length R ≡ length b = length-turn t b (omega arith) in
-      let i2 : u - k ≤ length (drop k R) = simp length-drop (omega (arith, n)) in
-      let v : k + (u - k) ≡ u = omega arith in
-      let e : turn (wrap (t + k) (length b)) b ≡ drop k R ++ take k R = sym (turn-turn t k b h (omega arith)) ∙ turned k R in
-      let x : take (u - k) (turn (wrap (t + k) (length b)) b) ≡ drop k (take u R) =
-      ap (take (u - k)) e ∙ take-append-le (u - k) (drop k R) (take k R) i2 ∙ sym (drop-take k u R) in
-      let y : drop (u - k) (turn (wrap (t + k) (length b)) b) ≡ drop u R ++ take k (take u R) =
-      ap (drop (u - k)) e ∙ drop-append-le (u - k) (drop k R) (take k R) i2
-      ∙ (λ i. (drop-drop (u - k) k R ∙ ap (λ (m : ℕ). drop m R) v) i ++ sym (take-take k u R have) i) in
-      λ i. record { capacity = length b; start = wrap (t + k) (length b); held = x i; spare = y i }
+  ring-leave t u k b h room have = left (length b) t u b refl h room k have
 
-  -- what was written before is held
   pub ring-lead : (t u : ℕ) (x : A) (b : List A) → t < length b → u < length b
       → let p = wrap (t + (length b - 1)) (length b) in ring (length b) p (suc u) (paste b p (x ∷ []) 1) ≡ lead x (ring (length b) t u b)
-  ring-lead t u x b h room =
-      let R = turn t b in
-      let p = wrap (t + (length b - 1)) (length b) in
-      let n : length R ≡ length b = length-turn t b (omega arith) in
-      let q : p < length b = wrap-below (t + (length b - 1)) (length b) (omega arith) in
-      let z : p + 0 ≡ p = omega arith in
-      let one : length (drop (length b - 1) R) ≡ 1 = length-drop (length b - 1) R ∙ omega (arith, n) in
-      let e : turn p (paste b p (x ∷ []) 1) ≡ x ∷ take (length b - 1) R =
-      turn-paste p 0 1 b (x ∷ []) q (omega arith) (omega arith) p (sym (ap (λ (y : ℕ). wrap y (length b)) z ∙ wrap-low p (length b) q)) (omega arith)
-      ∙ ap (λ (l : List A). x ∷ drop 1 l) (sym (turn-turn t (length b - 1) b h (omega arith)) ∙ turned (length b - 1) R)
-      ∙ ap (λ (l : List A). x ∷ l) (drop-at (drop (length b - 1) R) (take (length b - 1) R) 1 one) in
-      let s : take (suc u) (turn p (paste b p (x ∷ []) 1)) ≡ x ∷ take u R = ap (take (suc u)) e ∙ ap (λ (l : List A). x ∷ l) (take-take u (length b - 1) R (omega arith)) in
-      let m : length b - 1 - u ≡ length (drop u R) - 1 = omega (arith, length-drop u R, n) in
-      let y : drop (suc u) (turn p (paste b p (x ∷ []) 1)) ≡ take (length (drop u R) - 1) (drop u R) =
-      ap (drop (suc u)) e ∙ drop-take u (length b - 1) R ∙ ap (λ (k : ℕ). take k (drop u R)) m in
-      λ i. record { capacity = length b; start = p; held = s i; spare = y i }
-
-  pub ring-clear : (t u : ℕ) (b : List A) → t < length b → ring (length b) 0 0 b ≡ clear (ring (length b) t u b)
-  ring-clear t u b h =
-      let e : t + (length b - t) ≡ length b = omega arith in
-      let z : wrap (t + (length b - t)) (length b) ≡ 0 = wrap-high (t + (length b - t)) (length b) (omega arith) ∙ omega arith in
-      let y : turn 0 b ≡ turn (length b - t) (take u (turn t b) ++ drop u (turn t b)) =
-      sym (ap (turn (length b - t)) (take-append-drop u (turn t b)) ∙ turn-turn t (length b - t) b h (omega arith) ∙ ap (λ (x : ℕ). turn x b) z) in
-      λ i. record { capacity = length b; start = 0; held = []; spare = y i }
+  ring-lead t u x b h room = led (length b) t u b refl h (omega arith) x room

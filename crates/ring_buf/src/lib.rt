@@ -8,8 +8,8 @@ ghost use Prim.Native.Nat.{ℕ, _+_, _<_, _≤_, min};
 ghost use mathlib.Core.List.{List};
 ghost use lib.ListN.{length, take, drop, getD};
 ghost use lib.Seq.{paste};
-ghost use Rattle.store.specs.Store.{Did, looks, handed, Filled, first, Started};
-ghost use Rattle.ring_buf.specs.Ring.{wrap, turn};
+ghost use Rattle.store.specs.Store.{answer, Did, looks, handed, Filled, first, Started};
+ghost use Rattle.ring_buf.specs.Ring.{Ring, wrap, turn};
 ghost use Rattle.ring_buf.specs.Bytes.{sound, bytes, new, may, put as putByte, get as getByte, putMany, getMany, peek, reset as emptied, gotten, seen, sizeOf, spaceOf, capacityOf, headOf, tailOf, empty, full};
 
 fn least(a: usize, b: usize) -> usize
@@ -23,6 +23,14 @@ pub fn place(x: usize, n: usize) -> usize
     ensures { λ r. ⌜ r ≡ wrap x n ⌝ }
 {
     if x < n { x } else { x - n }
+}
+
+// The place after t, round the end of n.
+fn step(t: u32, n: u32) -> u32
+    requires { ⌜ t < n ⌝ }
+    ensures { λ r. ⌜ r ≡ wrap (t + 1) n ⌝ }
+{
+    if t + 1 < n { t + 1 } else { 0 }
 }
 
 // The first of src, as many as dst has room for, go to the start of dst.
@@ -88,4 +96,187 @@ pub fn formed(h: &[u32], b: &[u8]) -> bool
         return false;
     }
     seq::wide(c) <= b.len()
+}
+
+// OK; EINVAL: a capacity of 0, or above the buffer's length.
+pub fn init(h: &mut [u32], b: &[u8], capacity: u32) -> i32
+    ensures { λ r. ⌜ Started bytes (may capacity (now (b .entry))) (new capacity (now (b .entry))) (now (h .entry)) (now (b .entry)) r (now (h .exit)) (now (b .entry)) ⌝ }
+{
+    if h.len() < 3 {
+        return EINVAL;
+    }
+    if capacity == 0 {
+        return EINVAL;
+    }
+    if b.len() < seq::wide(capacity) {
+        return EINVAL;
+    }
+    h[0] = capacity;
+    h[1] = 0;
+    h[2] = 0;
+    OK
+}
+
+// OK: the byte is behind those that were held; EAGAIN: it is full.
+pub fn put(h: &mut [u32], b: &mut [u8], value: u8) -> i32
+    ensures { λ r. ⌜ Did bytes (putByte value) (now (h .entry)) (now (b .entry)) r (now (h .exit)) (now (b .exit)) ⌝ }
+{
+    if !formed(h, b) {
+        return EINVAL;
+    }
+    let c = h[0];
+    let n = h[2];
+    if n == c {
+        return EAGAIN;
+    }
+    let a = place(seq::wide(h[1]) + seq::wide(n), seq::wide(c));
+    b[a] = value;
+    h[2] = n + 1;
+    OK
+}
+
+// OK: the first byte came out; EAGAIN: it is empty.
+pub fn get(h: &mut [u32], b: &[u8], value: &mut u8) -> i32
+    ensures { λ r. ⌜ Did bytes getByte (now (h .entry)) (now (b .entry)) r (now (h .exit)) (now (b .entry)) ⌝ }
+    ensures { λ r. ⌜ now (value .exit) ≡ first (now (value .entry)) (handed bytes (gotten 1) (now (h .entry)) (now (b .entry))) ⌝ }
+{
+    if !formed(h, b) {
+        return EINVAL;
+    }
+    let n = h[2];
+    if n == 0 {
+        return EAGAIN;
+    }
+    let t = h[1];
+    *value = b[seq::wide(t)];
+    h[1] = step(t, h[0]);
+    h[2] = n - 1;
+    OK
+}
+
+// How many went in, the first of src.
+pub fn put_n(h: &mut [u32], b: &mut [u8], src: &[u8]) -> i64
+    ensures { λ r. ⌜ Did bytes (putMany (now (src .entry))) (now (h .entry)) (now (b .entry)) r (now (h .exit)) (now (b .exit)) ⌝ }
+{
+    if !formed(h, b) {
+        return EINVAL as i64;
+    }
+    let c = seq::wide(h[0]);
+    let n = seq::wide(h[2]);
+    let k = least(src.len(), c - n);
+    fill(b, c, seq::wide(h[1]), n, &src[..k]);
+    h[2] = (n + k) as u32;
+    k as i64
+}
+
+// How many came out, to the first of out.
+pub fn get_n(h: &mut [u32], b: &[u8], out: &mut [u8]) -> i64
+    ensures { λ r. ⌜ Did bytes (getMany (length (now (out .entry)))) (now (h .entry)) (now (b .entry)) r (now (h .exit)) (now (b .entry)) ⌝ }
+    ensures { λ r. ⌜ Filled (handed bytes (gotten (length (now (out .entry)))) (now (h .entry)) (now (b .entry))) (now (out .entry)) (now (out .exit)) ⌝ }
+{
+    if !formed(h, b) {
+        return EINVAL as i64;
+    }
+    let c = seq::wide(h[0]);
+    let t = seq::wide(h[1]);
+    let n = seq::wide(h[2]);
+    let k = least(out.len(), n);
+    drain(b, c, t, &mut out[..k]);
+    h[1] = place(t + k, c) as u32;
+    h[2] = (n - k) as u32;
+    k as i64
+}
+
+// OK: the byte at idx is told; EINVAL: fewer are held.
+pub fn peek_at(h: &[u32], b: &[u8], idx: u32, value: &mut u8) -> i32
+    ensures { λ r. ⌜ r ≡ looks bytes (λ (s : Ring ℕ). answer (peek idx s)) (now (h .entry)) (now (b .entry)) ⌝ }
+    ensures { λ r. ⌜ now (value .exit) ≡ first (now (value .entry)) (handed bytes (seen idx) (now (h .entry)) (now (b .entry))) ⌝ }
+{
+    if !formed(h, b) {
+        return EINVAL;
+    }
+    if h[2] <= idx {
+        return EINVAL;
+    }
+    *value = b[place(seq::wide(h[1]) + seq::wide(idx), seq::wide(h[0]))];
+    OK
+}
+
+// OK: it is empty, and the next byte goes to the buffer's start.
+pub fn reset(h: &mut [u32], b: &[u8]) -> i32
+    ensures { λ r. ⌜ Did bytes emptied (now (h .entry)) (now (b .entry)) r (now (h .exit)) (now (b .entry)) ⌝ }
+{
+    if !formed(h, b) {
+        return EINVAL;
+    }
+    h[1] = 0;
+    h[2] = 0;
+    OK
+}
+
+pub fn size_get(h: &[u32], b: &[u8]) -> i64
+    ensures { λ r. ⌜ r ≡ looks bytes sizeOf (now (h .entry)) (now (b .entry)) ⌝ }
+{
+    if !formed(h, b) {
+        return EINVAL as i64;
+    }
+    seq::signed(h[2])
+}
+
+pub fn space_get(h: &[u32], b: &[u8]) -> i64
+    ensures { λ r. ⌜ r ≡ looks bytes spaceOf (now (h .entry)) (now (b .entry)) ⌝ }
+{
+    if !formed(h, b) {
+        return EINVAL as i64;
+    }
+    seq::signed(h[0] - h[2])
+}
+
+pub fn capacity_get(h: &[u32], b: &[u8]) -> i64
+    ensures { λ r. ⌜ r ≡ looks bytes capacityOf (now (h .entry)) (now (b .entry)) ⌝ }
+{
+    if !formed(h, b) {
+        return EINVAL as i64;
+    }
+    seq::signed(h[0])
+}
+
+// 1: nothing is held; 0.
+pub fn is_empty(h: &[u32], b: &[u8]) -> i32
+    ensures { λ r. ⌜ r ≡ looks bytes empty (now (h .entry)) (now (b .entry)) ⌝ }
+{
+    if !formed(h, b) {
+        return EINVAL;
+    }
+    if h[2] == 0 { 1 } else { 0 }
+}
+
+// 1: nothing is free; 0.
+pub fn is_full(h: &[u32], b: &[u8]) -> i32
+    ensures { λ r. ⌜ r ≡ looks bytes full (now (h .entry)) (now (b .entry)) ⌝ }
+{
+    if !formed(h, b) {
+        return EINVAL;
+    }
+    if h[2] == h[0] { 1 } else { 0 }
+}
+
+// The place of the first byte.
+pub fn head_get(h: &[u32], b: &[u8]) -> i64
+    ensures { λ r. ⌜ r ≡ looks bytes headOf (now (h .entry)) (now (b .entry)) ⌝ }
+{
+    if !formed(h, b) {
+        return EINVAL as i64;
+    }
+    seq::signed(h[1])
+}
+
+// The place to which the next byte goes.
+pub fn tail_get(h: &[u32], b: &[u8]) -> i64
+    ensures { λ r. ⌜ r ≡ looks bytes tailOf (now (h .entry)) (now (b .entry)) ⌝ }
+{
+    if !formed(h, b) {
+        return EINVAL as i64;
+    }
+    place(seq::wide(h[1]) + seq::wide(h[2]), seq::wide(h[0])) as i64
 }

@@ -1,14 +1,29 @@
 -- How a function shows what it did, and how its callers use it.
 use mathlib.Core.Path.{_≡_, refl, sym, ap, subst, _∙_}
 use mathlib.Core.Bool.{Bool, true, false, cond}
-use mathlib.Core.List.{List}
+use mathlib.Core.List.{List, [], _∷_}
 use Prim.Native.Nat.{ℕ, _<_, _≤_}
 use native.Mathlib.Omega.{arith}
 use borrow.Author.Tests.{lt-leb, le-leb}
 use lib.IntN.{ℤ, pos, negsuc}
 use lib.ListN.{length}
+use Rattle.seq.specs.List.{any}
+use Rattle.seq.proofs.Order.{clash}
 use Rattle.thread.specs.Code.{ok, einval}
-use Rattle.store.specs.Store.{Reply, refuse, accept, answer, Place, reply, Becomes, After, Did, Started}
+use Rattle.store.specs.Store.{Reply, refuse, accept, answer, Place, reply, Becomes, After, Did, looks, handed, Started}
+
+-- two tests, one after the other
+pub both-true : (x y : Bool) → cond x y false ≡ true → (x ≡ true) × (y ≡ true)
+both-true true y e = (refl, e)
+both-true false y e = clash (sym e)
+
+pub any-some : {A : Type 0} (l : List A) → 0 < length l → any l ≡ true
+any-some [] f = absurd (omega arith)
+any-some (x ∷ l) f = refl
+
+pub any-none : {A : Type 0} (l : List A) → length l ≡ 0 → any l ≡ false
+any-none [] f = refl
+any-none (x ∷ l) f = absurd (omega arith)
 
 no-code : {n : ℕ} → pos 0 ≡ negsuc n → ⊥
 no-code z = let y : _≡_ {A = ℕ} 0 1 = cc in omega arith
@@ -42,6 +57,20 @@ module _ {S : Type 0} (P : Place S) (f : S → Reply S) (h b : List ℕ) where
 
     pub answers : P .formed h b ≡ true → r ≡ answer (f (P .object h b))
     answers e = d .code ∙ ap answer (replies e)
+
+module _ {S : Type 0} (P : Place S) (h b : List ℕ) where
+  -- what is told and handed out of a malformed object, and of any other
+  pub looks-bad : (f : S → ℤ) → P .formed h b ≡ false → looks P f h b ≡ einval
+  looks-bad f e = rw e
+
+  pub looks-is : (f : S → ℤ) → P .formed h b ≡ true → looks P f h b ≡ f (P .object h b)
+  looks-is f e = rw e
+
+  pub handed-bad : (f : S → List ℕ) → P .formed h b ≡ false → handed P f h b ≡ []
+  handed-bad f e = rw e
+
+  pub handed-is : (f : S → List ℕ) → P .formed h b ≡ true → handed P f h b ≡ f (P .object h b)
+  handed-is f e = rw e
 
 module _ {S : Type 0} {P : Place S} {may : Bool} {s : S} {h b : List ℕ} where
   -- a header that is too short
