@@ -2,3 +2,4 @@ pub mod Rings
 pub mod Parts
 pub mod Headers
 pub mod Answers
+pub mod Counting

@@ -4,12 +4,13 @@ use thread::EAGAIN;
 use thread::EINVAL;
 use thread::OK;
 ghost use mathlib.Core.Path.{_≡_};
-ghost use Prim.Native.Nat.{ℕ, _+_, _<_, _≤_, min};
+ghost use Prim.Native.Nat.{ℕ, _+_, _%_, _<_, _≤_, min};
 ghost use mathlib.Core.List.{List};
 ghost use lib.ListN.{length, take, drop, getD};
 ghost use lib.Seq.{paste};
 ghost use Rattle.store.specs.Store.{answer, Did, looks, handed, Filled, first, Started};
 ghost use Rattle.ring_buf.specs.Ring.{Ring, wrap, turn};
+ghost use Rattle.ring_buf.specs.Counters.{difference, offset as startsAt, claimed, finishes, room, amount};
 ghost use Rattle.ring_buf.specs.Bytes.{sound, bytes, new, may, put as putByte, get as getByte, putMany, getMany, peek, reset as emptied, gotten, seen, sizeOf, spaceOf, capacityOf, headOf, tailOf, empty, full};
 
 fn least(a: usize, b: usize) -> usize
@@ -279,4 +280,59 @@ pub fn tail_get(h: &[u32], b: &[u8]) -> i64
         return EINVAL as i64;
     }
     place(seq::wide(h[1]) + seq::wide(h[2]), seq::wide(h[0])) as i64
+}
+
+// a - b, modulo 2^32.
+fn minus(a: u32, b: u32) -> u32
+    ensures { λ r. ⌜ r ≡ difference a b ⌝ }
+{
+    if b <= a {
+        a - b
+    } else {
+        a + (4294967295 - b) + 1
+    }
+}
+
+// d modulo n; most often d is below n already.
+fn remainder(d: u32, n: u32) -> u32
+    requires { ⌜ 0 < n ⌝ }
+    ensures { λ r. ⌜ r ≡ d % n ⌝ }
+{
+    if d < n { d } else { d % n }
+}
+
+// How many bytes can be claimed in one piece, which starts at the offset.
+pub fn claim_decide(head: u32, base: u32, buf_size: u32, requested: u32, offset: &mut u32) -> u32
+    ensures { λ r. ⌜ (r ≡ claimed head base «buf_size» requested) × (now (offset .exit) ≡ startsAt head base «buf_size») ⌝ }
+{
+    if buf_size == 0 {
+        *offset = 0;
+        return 0;
+    }
+    let a = remainder(minus(head, base), buf_size);
+    *offset = a;
+    let m = buf_size - a;
+    if requested <= m { requested } else { m }
+}
+
+// Whether so many bytes were claimed and not yet finished.
+pub fn finish_decide(head: u32, tail: u32, size: u32) -> bool
+    ensures { λ r. ⌜ r ≡ finishes head tail size ⌝ }
+{
+    size <= minus(head, tail)
+}
+
+// How many bytes are free.
+pub fn space_get_decide(put_head: u32, get_tail: u32, buf_size: u32) -> u32
+    ensures { λ r. ⌜ r ≡ room «put_head» «get_tail» «buf_size» ⌝ }
+{
+    let d = minus(put_head, get_tail);
+    if buf_size < d { 0 } else { buf_size - d }
+}
+
+// How many bytes are held.
+pub fn size_get_decide(put_tail: u32, get_head: u32) -> u32
+    ensures { λ r. ⌜ r ≡ amount «put_tail» «get_head» ⌝ }
+{
+    minus(put_tail, get_head)
 }
