@@ -10,7 +10,7 @@ use lib.ListN.{length}
 use Rattle.seq.specs.List.{any}
 use Rattle.seq.proofs.Order.{clash}
 use Rattle.thread.specs.Code.{ok, einval}
-use Rattle.store.specs.Store.{Reply, refuse, accept, answer, Place, reply, Becomes, After, Did, looks, handed, Started}
+use Rattle.store.specs.Store.{Reply, refuse, accept, answer, Place, reply, Becomes, After, Did, looks, handed, first, Started}
 
 -- two tests, one after the other
 pub both-true : (x y : Bool) → cond x y false ≡ true → (x ≡ true) × (y ≡ true)
@@ -25,7 +25,7 @@ pub any-none : {A : Type 0} (l : List A) → length l ≡ 0 → any l ≡ false
 any-none [] f = refl
 any-none (x ∷ l) f = absurd (omega arith)
 
-no-code : {n : ℕ} → pos 0 ≡ negsuc n → ⊥
+pub no-code : {n : ℕ} → pos 0 ≡ negsuc n → ⊥
 no-code z = let y : _≡_ {A = ℕ} 0 1 = cc in omega arith
 
 module _ {S : Type 0} (P : Place S) (f : S → Reply S) (h b : List ℕ) where
@@ -58,6 +58,16 @@ module _ {S : Type 0} (P : Place S) (f : S → Reply S) (h b : List ℕ) where
     pub answers : P .formed h b ≡ true → r ≡ answer (f (P .object h b))
     answers e = d .code ∙ ap answer (replies e)
 
+    -- what it knows of one that was refused
+    kept : {c : ℤ} → reply P f h b ≡ refuse c → (r ≡ c) × (h' ≡ h) × (b' ≡ b)
+    kept e = let a = subst (λ (x : Reply S). After P x h b h' b') e (d .after) in (d .code ∙ ap answer e, a .0, a .1)
+
+    pub kept-bad : P .formed h b ≡ false → (r ≡ einval) × (h' ≡ h) × (b' ≡ b)
+    kept-bad e = kept (replies-bad e)
+
+    pub kept-no : {c : ℤ} → P .formed h b ≡ true → f (P .object h b) ≡ refuse c → (r ≡ c) × (h' ≡ h) × (b' ≡ b)
+    kept-no e o = kept (replies e ∙ o)
+
 module _ {S : Type 0} (P : Place S) (h b : List ℕ) where
   -- what is told and handed out of a malformed object, and of any other
   pub looks-bad : (f : S → ℤ) → P .formed h b ≡ false → looks P f h b ≡ einval
@@ -71,6 +81,9 @@ module _ {S : Type 0} (P : Place S) (h b : List ℕ) where
 
   pub handed-is : (f : S → List ℕ) → P .formed h b ≡ true → handed P f h b ≡ f (P .object h b)
   handed-is f e = rw e
+
+  pub hands-none : (f : S → List ℕ) (x : ℕ) → P .formed h b ≡ false → x ≡ first x (handed P f h b)
+  hands-none f x e = rw e
 
 module _ {S : Type 0} {P : Place S} {may : Bool} {s : S} {h b : List ℕ} where
   -- a header that is too short

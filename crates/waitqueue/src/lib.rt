@@ -4,4 +4,5 @@ pub mod futexes;
 pub mod mutexes;
 pub mod queues;
 pub mod semaphores;
+pub mod stacks;
 pub mod threads;

@@ -1,0 +1,88 @@
+-- How each answer of a function meets the stack's definition. Assumes nothing.
+use mathlib.Core.Path.{_≡_, refl, sym, ap, subst}
+use mathlib.Core.Bool.{true}
+use mathlib.Core.List.{List}
+use Prim.Native.Nat.{ℕ, suc, _-_, _≤_, _<_}
+use native.Mathlib.Nat.{sub-zero}
+use native.Mathlib.Omega.{arith}
+use lib.IntN.{ℤ, pos}
+use lib.ListN.{length, getD, set, length-set}
+use lib.Seq.{drop-set-lt}
+use borrow.Author.Tests.{lt-ltb, le-ltb, le-leb, lt-leb, eq-eqb, ne-eqb}
+use Rattle.seq.specs.List.{back}
+use Rattle.seq.proofs.Back.{back-length}
+use Rattle.thread.specs.Code.{ok, enomem, ebusy, einval}
+use Rattle.store.specs.Store.{accept, Becomes, Did, looks, handed, first, Started}
+use Rattle.store.proofs.Laws.{did-no, did-yes, start-short, start-bad, start-made}
+use Rattle.stack.specs.Stack.{Stack, push, pop, popped, used, free, full, empty, fresh, may}
+use Rattle.stack.specs.Post.{place}
+use Rattle.stack.proofs.Memory.{Sound, is-sound, becomes, counts, one-more, one-fewer}
+
+-- a new stack
+module _ (h w : List ℕ) (c : ℕ) where
+  abbrev Starts : ℤ → List ℕ → Type 0
+  Starts r h' = Started place (may c w) (fresh c w) h w r h' w
+
+  pub init-no-header : length h < 2 → Starts einval h
+  init-no-header k = start-short k
+
+  pub init-no-room : 2 ≤ length h → c ≡ 0 → Starts einval h
+  init-no-room k e = start-bad k (rw e)
+
+  pub init-no-memory : 2 ≤ length h → 0 < c → length w < c → Starts einval h
+  init-no-memory k a b = start-bad k (rw (lt-ltb 0 c a, lt-leb c (length w) b))
+
+  pub init-made : 2 ≤ length h → 0 < c → c ≤ length w → Starts ok (set (set h 0 c) 1 0)
+  init-made k a b = start-made k (rw (lt-ltb 0 c a, le-leb c (length w) b)) (rw (sub-zero c) at (becomes h w w c 0 k a (omega arith) b refl refl))
+
+module _ (h w : List ℕ) where
+  module _ (s : place .formed h w ≡ true) where
+    pub sound : Sound h w
+    sound = is-sound h w s
+
+    pub push-full : (x : ℕ) → getD h 1 0 ≡ getD h 0 0 → Did place (push x) h w enomem h w
+    push-full x e = did-no place (push x) h w s (rw (back-length w (getD h 1 0), le-ltb (getD h 1 0) (getD h 0 0) (omega arith)))
+
+    pub pushed : (x : ℕ) → getD h 1 0 < getD h 0 0 → Did place (push x) h w ok (set h 1 (suc (getD h 1 0))) (set w (getD h 1 0) x)
+    pushed x b =
+        did-yes place (push x) h w s (rw (back-length w (getD h 1 0), lt-ltb (getD h 1 0) (getD h 0 0) b))
+        (subst (λ (y : Stack). Becomes place y h w (set h 1 (suc (getD h 1 0))) (set w (getD h 1 0) x))
+        (one-more (getD h 0 0) (getD h 1 0) w b (sound .housed) x)
+        (counts h w (set w (getD h 1 0) x) (suc (getD h 1 0)) sound b (length-set w (getD h 1 0) x) (drop-set-lt (getD h 0 0) w (getD h 1 0) x b)))
+
+    pub pop-none : getD h 1 0 ≡ 0 → Did place pop h w ebusy h w
+    pop-none e = did-no place pop h w s (rw e)
+
+    pub hands-nothing : getD h 1 0 ≡ 0 → (x : ℕ) → x ≡ first x (handed place popped h w)
+    hands-nothing e x = rw (s, e)
+
+    module _ (n : ℕ) (e : getD h 1 0 ≡ suc n) where
+      below : n < getD h 0 0
+      below = omega (arith, sound)
+
+      pub popped-one : Did place pop h w ok (set h 1 n) w
+      popped-one =
+          did-yes place pop h w s (rw (e, lt-ltb 0 (length (back w (suc n))) (omega (arith, back-length w (suc n)))) (ap (λ (y : Stack). accept y ok) (sym (one-fewer (getD h 0 0) n w below (sound .housed)))))
+          (counts h w w n sound (omega (arith, below)) refl refl)
+
+      pub hands : (x : ℕ) → getD w n 0 ≡ first x (handed place popped h w)
+      hands x = rw (s, e)
+
+    -- what it shows
+    pub see-used : pos (getD h 1 0) ≡ looks place used h w
+    see-used = rw (s, back-length w (getD h 1 0))
+
+    pub see-free : pos (getD h 0 0 - getD h 1 0) ≡ looks place free h w
+    see-free = rw (s, back-length w (getD h 1 0))
+
+    pub see-full : getD h 1 0 ≡ getD h 0 0 → pos 1 ≡ looks place full h w
+    see-full e = rw (s, back-length w (getD h 1 0), eq-eqb (getD h 1 0) (getD h 0 0) e)
+
+    pub see-not-full : (getD h 1 0 ≡ getD h 0 0 → ⊥) → pos 0 ≡ looks place full h w
+    see-not-full e = rw (s, back-length w (getD h 1 0), ne-eqb (getD h 1 0) (getD h 0 0) e)
+
+    pub see-empty : getD h 1 0 ≡ 0 → pos 1 ≡ looks place empty h w
+    see-empty e = rw (s, back-length w (getD h 1 0), eq-eqb (getD h 1 0) 0 e)
+
+    pub see-not-empty : (getD h 1 0 ≡ 0 → ⊥) → pos 0 ≡ looks place empty h w
+    see-not-empty e = rw (s, back-length w (getD h 1 0), ne-eqb (getD h 1 0) 0 e)

@@ -1,0 +1,65 @@
+-- A run of a stack, computed. Assumes nothing.
+use mathlib.Core.Path.{_≡_, refl}
+use mathlib.Core.Bool.{true, false}
+use mathlib.Core.List.{List, [], _∷_}
+use native.Mathlib.Omega.{arith}
+use lib.IntN.{pos}
+use Rattle.thread.specs.Code.{ok, enomem, ebusy, einval}
+use Rattle.store.specs.Store.{accept, refuse, answer, looks, handed}
+use Rattle.stack.specs.Stack.{Stack, handsOver, waits, pops, pushDecide, pop, popped, used, free, full, empty, fresh, may}
+use Rattle.stack.specs.Post.{place}
+use Rattle.stack.specs.History.{Call, pushing, popping, does, after, Lies, pushed, stayed, Made, begun, made}
+use Rattle.stack.specs.HandOver.{Waited, Event, put, get, ends, allCalls, allOut}
+use Rattle.stack.proofs.Answers as answers
+
+-- room for two in a memory of three
+abbrev new : Stack
+new = fresh 2 (1 ∷ 2 ∷ 3 ∷ [])
+
+pub new-is : (may 2 (1 ∷ 2 ∷ 3 ∷ []) ≡ true) × (new .spare ≡ 1 ∷ 2 ∷ []) × (may 0 (1 ∷ []) ≡ false) × (may 2 (1 ∷ []) ≡ false)
+new-is = (refl, refl, refl, refl)
+
+-- 5 and 6 are pushed, the last first; 7 finds no room
+abbrev two : List Call
+two = pushing 6 ∷ pushing 5 ∷ []
+
+pub held-is : (after new two .held ≡ 6 ∷ 5 ∷ []) × (answer (does (pushing 7) (after new two)) ≡ enomem) × (answer (pop new) ≡ ebusy)
+held-is = (refl, refl, refl)
+
+pub popped-is : (popped (after new two) ≡ 6 ∷ []) × (popped (after new (popping ∷ two)) ≡ 5 ∷ []) × (after new (popping ∷ two) .spare ≡ 6 ∷ [])
+popped-is = (refl, refl, refl)
+
+-- 5 lies on no other, and does so while 6 comes and goes
+pub five-lies : Lies new 5 0 (popping ∷ two)
+five-lies = stayed {k = popping} {ks = two} (stayed {k = pushing 6} {ks = pushing 5 ∷ []} (pushed {ks = []} refl (omega arith)) (omega arith)) (omega arith)
+
+-- in memory, with a word more than it can hold
+pub memory-is : (place .formed (2 ∷ 1 ∷ []) (5 ∷ 0 ∷ 9 ∷ []) ≡ true) × (looks place used (2 ∷ 1 ∷ []) (5 ∷ 0 ∷ 9 ∷ []) ≡ pos 1)
+    × (looks place free (2 ∷ 1 ∷ []) (5 ∷ 0 ∷ 9 ∷ []) ≡ pos 1) × (looks place full (2 ∷ 1 ∷ []) (5 ∷ 0 ∷ 9 ∷ []) ≡ pos 0)
+    × (looks place empty (2 ∷ 0 ∷ []) (5 ∷ 0 ∷ 9 ∷ []) ≡ pos 1) × (handed place popped (2 ∷ 1 ∷ []) (5 ∷ 0 ∷ 9 ∷ []) ≡ 5 ∷ [])
+memory-is = (refl, refl, refl, refl, refl, refl)
+
+-- malformed: no room, more words than it can hold, too little memory, too short a header
+pub malformed-is : (looks place used (0 ∷ 0 ∷ []) (5 ∷ []) ≡ einval) × (looks place used (1 ∷ 2 ∷ []) (5 ∷ 6 ∷ []) ≡ einval)
+    × (looks place used (2 ∷ 1 ∷ []) (5 ∷ []) ≡ einval) × (looks place used (2 ∷ []) (5 ∷ 6 ∷ []) ≡ einval)
+malformed-is = (refl, refl, refl, refl)
+
+pub made-one : Made (2 ∷ 1 ∷ []) (5 ∷ 0 ∷ 9 ∷ []) (pushing 6 ∷ []) (2 ∷ 2 ∷ []) (5 ∷ 6 ∷ 9 ∷ [])
+made-one = made begun (answers.pushed (2 ∷ 1 ∷ []) (5 ∷ 0 ∷ 9 ∷ []) refl 6 (omega arith))
+
+-- on plain numbers
+pub decided-is : (pushDecide 0 2 true ≡ accept 0 handsOver) × (pushDecide 1 2 false ≡ accept 2 ok) × (pushDecide 2 2 false ≡ refuse enomem)
+    × (pushDecide 1 2 true ≡ refuse einval) × (pushDecide 3 2 false ≡ refuse einval) × (pushDecide 0 0 false ≡ refuse einval)
+    × (pops 2 true ≡ accept 1 ok) × (pops 0 true ≡ refuse ebusy) × (pops 0 false ≡ accept 0 waits)
+decided-is = (refl, refl, refl, refl, refl, refl, refl, refl, refl)
+
+-- two wait; 8 and 9 are handed over, 4 is stored; the last first
+abbrev run : List Event
+run = put 4 ∷ put 9 ∷ put 8 ∷ get false ∷ get false ∷ []
+
+abbrev nobody : Waited
+nobody = record { stack = new; waiting = 0 }
+
+pub run-is : (ends nobody run .stack .held ≡ 4 ∷ []) × (ends nobody run .waiting ≡ 0) × (allOut nobody run ≡ 9 ∷ 8 ∷ [])
+    × (allCalls nobody run ≡ pushing 4 ∷ popping ∷ pushing 9 ∷ popping ∷ pushing 8 ∷ [])
+run-is = (refl, refl, refl, refl)

@@ -1,0 +1,12 @@
+pub mod Memory
+pub mod Numbers
+pub mod Answers
+pub mod Calls
+pub mod Histories
+pub mod Traces
+pub mod Events
+pub mod HandOvers
+pub mod Example
+pub mod Upstream
+pub mod Others
+pub mod Lemmas

@@ -1,0 +1,77 @@
+-- A stack in memory: when it is as it should be, and what a store to the header or to the words makes of it. Assumes nothing.
+use mathlib.Core.Path.{_≡_, refl, sym}
+use mathlib.Core.Bool.{Bool, true, false, cond}
+use mathlib.Core.List.{List, [], _∷_, _++_}
+use Prim.Native.Nat.{ℕ, suc, _-_, _≤_, _<_}
+use native.Mathlib.Omega.{arith}
+use lib.Dec.{ltb, leb}
+use lib.ListN.{length, getD, set, take, drop}
+use lib.Seq.{drop-cons, set-getD, getD-set-same, drop-set-lt}
+use borrow.Author.Tests.{ltb-true, leb-true, lt-ltb, le-leb}
+use Rattle.seq.proofs.Order.{clash}
+use Rattle.seq.proofs.Back.{back-set}
+use Rattle.store.specs.Store.{Becomes}
+use Rattle.stack.specs.Stack.{may}
+use Rattle.stack.specs.Post.{stackOf, place}
+
+-- what a header and words that are as they should be show
+pub record Sound (h w : List ℕ) : Type 0 where
+  pub words : 2 ≤ length h
+  pub some-room : 0 < getD h 0 0
+  pub within : getD h 1 0 ≤ getD h 0 0
+  pub housed : getD h 0 0 ≤ length w
+
+pub is-sound : (h w : List ℕ) → place .formed h w ≡ true → Sound h w
+is-sound h w = go (leb 2 (length h)) (ltb 0 (getD h 0 0)) (leb (getD h 1 0) (getD h 0 0)) (leb (getD h 0 0) (length w)) refl refl refl refl
+  where
+    go : (a b c d : Bool) → leb 2 (length h) ≡ a → ltb 0 (getD h 0 0) ≡ b → leb (getD h 1 0) (getD h 0 0) ≡ c → leb (getD h 0 0) (length w) ≡ d
+        → cond a (cond b (cond c d false) false) false ≡ true → Sound h w
+    go true true true true e f g k z =
+        record { words = leb-true _ _ e; some-room = ltb-true _ _ f; within = leb-true _ _ g; housed = leb-true _ _ k }
+    go true true true false e f g k z = clash (sym z)
+    go true true false d e f g k z = clash (sym z)
+    go true false c d e f g k z = clash (sym z)
+    go false b c d e f g k z = clash (sym z)
+
+pub formed : (h w : List ℕ) → Sound h w → place .formed h w ≡ true
+formed h w s =
+    rw (le-leb 2 (length h) (s .words), lt-ltb 0 (getD h 0 0) (s .some-room), le-leb (getD h 1 0) (getD h 0 0) (s .within), le-leb (getD h 0 0) (length w) (s .housed))
+
+-- what a stack that there can be shows
+pub may-is : (c : ℕ) (w : List ℕ) → may c w ≡ true → (0 < c) × (c ≤ length w)
+may-is c w = go (ltb 0 c) (leb c (length w)) refl refl
+  where
+    go : (a b : Bool) → ltb 0 c ≡ a → leb c (length w) ≡ b → cond a b false ≡ true → (0 < c) × (c ≤ length w)
+    go true true e f z = (ltb-true _ _ e, leb-true _ _ f)
+    go true false e f z = clash (sym z)
+    go false b e f z = clash (sym z)
+
+-- a header with this capacity and this count, over words that are the same from the capacity on
+pub becomes : (h w w' : List ℕ) (c n : ℕ) → 2 ≤ length h → 0 < c → n ≤ c → c ≤ length w → length w' ≡ length w → drop c w' ≡ drop c w
+    → Becomes place (stackOf c n w') h w (set (set h 0 c) 1 n) w'
+becomes [] w w' c n k a b e l d = absurd (omega arith)
+becomes (x ∷ []) w w' c n k a b e l d = absurd (omega arith)
+becomes (x ∷ y ∷ t) w w' c n k a b e l d =
+    record {
+      formed = formed (c ∷ n ∷ t) w' (record { words = omega arith; some-room = a; within = b; housed = omega arith });
+      object = refl;
+      beside = refl;
+      rest = d;
+      long = (refl, l);
+    }
+
+-- the capacity stays
+pub counts : (h w w' : List ℕ) (n : ℕ) → Sound h w → n ≤ getD h 0 0 → length w' ≡ length w → drop (getD h 0 0) w' ≡ drop (getD h 0 0) w
+    → Becomes place (stackOf (getD h 0 0) n w') h w (set h 1 n) w'
+counts h w w' n s b l d = rw (set-getD h 0 0) at (becomes h w w' (getD h 0 0) n (s .words) (s .some-room) b (s .housed) l d)
+
+module _ (c n : ℕ) (w : List ℕ) (b : n < c) (k : c ≤ length w) where
+  -- the spare words begin with word n
+  next : take (c - n) (drop n w) ≡ getD w n 0 ∷ take (c - suc n) (drop (suc n) w)
+  next = let e : c - n ≡ suc (c - suc n) = omega arith in rw (e, drop-cons w n 0 (omega arith))
+
+  pub one-more : (x : ℕ) → stackOf c (suc n) (set w n x) ≡ record { capacity = c; held = x ∷ stackOf c n w .held; spare = drop 1 (stackOf c n w .spare) }
+  one-more x = rw (next, getD-set-same w n x 0 (omega arith), back-set w n n x (omega arith), drop-set-lt (suc n) w n x (omega arith))
+
+  pub one-fewer : stackOf c n w ≡ record { capacity = c; held = drop 1 (stackOf c (suc n) w .held); spare = take 1 (stackOf c (suc n) w .held) ++ stackOf c (suc n) w .spare }
+  one-fewer = rw next

@@ -1,0 +1,117 @@
+-- Our contracts imply those of Gale's stack.rs. Assumes nothing.
+use mathlib.Core.Path.{_≡_, refl, sym, ap, subst, _∙_}
+use mathlib.Core.Bool.{true, false}
+use mathlib.Core.List.{List, [], _∷_}
+use Prim.Native.Nat.{ℕ, _-_, _≤_, _<_}
+use native.Mathlib.Omega.{arith}
+use lib.IntN.{ℤ}
+use lib.ListN.{length, getD, take}
+use Rattle.seq.proofs.Back.{back-length}
+use Rattle.thread.specs.Code.{enomem, ebusy, einval}
+use Rattle.store.specs.Store.{Reply, answer, Did, handed, first}
+use Rattle.store.proofs.Laws.{answers, kept-bad, kept-no, handed-is}
+use Rattle.stack.specs.Stack.{Stack, push, pop, popped, full}
+use Rattle.stack.specs.Post.{place}
+use Rattle.stack.specs.History.{Call, pushing, popping, does, left, next, depth}
+use Rattle.stack.specs.Upstream.{Inv, Housed, Push, Pop, Stored, Taken}
+use Rattle.stack.proofs.Memory.{is-sound, formed}
+use Rattle.stack.proofs.Calls.{mk, push-some, push-none, pop-some, Does, stores, no-room, takes, nothing, which}
+use Rattle.stack.proofs.Traces.{one}
+
+-- memory is as it should be exactly if upstream's invariant holds of the stack in it, and it is housed
+pub inv-formed : (h w : List ℕ) → Housed h w → Inv (place .object h w) → place .formed h w ≡ true
+inv-formed h w k i = formed h w (record { words = k .words; some-room = i .some-room; within = omega (arith, i .within, back-length w (getD h 1 0)); housed = k .memory })
+
+pub formed-inv : (h w : List ℕ) → place .formed h w ≡ true → Housed h w × Inv (place .object h w)
+formed-inv h w e =
+    let s = is-sound h w e in
+    (record { words = s .words; memory = s .housed }, record { some-room = s .some-room; within = omega (arith, back-length w (getD h 1 0)) })
+
+-- one call on a stack with upstream's invariant
+pub push-does : {c x : ℕ} {l p : List ℕ} {y : Reply Stack} → Inv (mk c l p) → Does c l p (pushing x) y → Push (mk c l p) (answer y) (left y (mk c l p))
+push-does i (stores b) =
+    record {
+      inv = record { some-room = i .some-room; within = b };
+      room = refl;
+      stored = λ z. refl;
+      counted = λ z. omega arith;
+      full = λ z. absurd (omega arith);
+      stayed = λ z. absurd (omega arith);
+    }
+push-does i (no-room b) =
+    record {
+      inv = i;
+      room = refl;
+      stored = λ z. absurd (omega arith);
+      counted = λ z. absurd (omega arith);
+      full = λ z. refl;
+      stayed = λ z. refl;
+    }
+
+pub pop-does : {c : ℕ} {l p : List ℕ} {y : Reply Stack} → Inv (mk c l p) → Does c l p popping y → Pop (mk c l p) (answer y) (left y (mk c l p))
+pop-does i takes =
+    record {
+      inv = record { some-room = i .some-room; within = omega (arith, i .within) };
+      room = refl;
+      taken = λ z. refl;
+      counted = λ z. omega arith;
+      nothing = λ z. absurd (omega arith);
+      stayed = λ z. absurd (omega arith);
+    }
+pop-does i nothing =
+    record {
+      inv = i;
+      room = refl;
+      taken = λ z. absurd (omega arith);
+      counted = λ z. absurd (omega arith);
+      nothing = λ z. refl;
+      stayed = λ z. refl;
+    }
+
+takes-first : (c : ℕ) (l p : List ℕ) (m m' : ℕ) → 0 < length l → m' ≡ first m (take 1 l) → Taken m' (mk c l p) (next (mk c l p) popping)
+takes-first c [] p m m' b f = absurd (omega arith)
+takes-first c (y ∷ l) p m m' b f = rw (pop-some c l p y) (record { held = cc })
+
+module _ (h w : List ℕ) (r : ℤ) (h' w' : List ℕ) where
+  -- what holds of the call holds of the memory
+  holds : (k : Call) (R : ℤ → Stack → Type 0) → place .formed h w ≡ true → Did place (does k) h w r h' w'
+      → R (answer (does k (place .object h w))) (next (place .object h w) k) → R r (place .object h' w')
+  holds k R e d a =
+      subst (λ (s : Stack). R r s) (sym (one k h w h' w' e d .1))
+      (subst (λ (z : ℤ). R z (next (place .object h w) k)) (sym (answers place (does k) h w d e)) a)
+
+  module _ (k : Housed h w) (i : Inv (place .object h w)) where
+    abbrev here : {k : Call} → Does (getD h 0 0) (place .object h w .held) (place .object h w .spare) k (does k (place .object h w))
+    here {k} = which (getD h 0 0) (place .object h w .held) (place .object h w .spare) k
+
+    pub stack-push : (x : ℕ) → Did place (push x) h w r h' w' → Push (place .object h w) r (place .object h' w')
+    stack-push x d = holds (pushing x) (Push (place .object h w)) (inv-formed h w k i) d (push-does i here)
+
+    pub stack-pop : Did place pop h w r h' w' → Pop (place .object h w) r (place .object h' w')
+    stack-pop d = holds popping (Pop (place .object h w)) (inv-formed h w k i) d (pop-does i here)
+
+    -- and which word it is
+    pub push-stores : (x : ℕ) → depth (place .object h w) < getD h 0 0 → Did place (push x) h w r h' w' → Stored x (place .object h w) (place .object h' w')
+    push-stores x b d =
+        holds (pushing x) (λ z s'. Stored x (place .object h w) s') (inv-formed h w k i) d
+        (rw (push-some (getD h 0 0) (place .object h w .held) (place .object h w .spare) x b) (record { held = refl }))
+
+    pub pop-takes : (m m' : ℕ) → 0 < depth (place .object h w) → Did place pop h w r h' w' → m' ≡ first m (handed place popped h w) → Taken m' (place .object h w) (place .object h' w')
+    pop-takes m m' b d f =
+        holds popping (λ z s'. Taken m' (place .object h w) s') (inv-formed h w k i) d
+        (takes-first (getD h 0 0) (place .object h w .held) (place .object h w .spare) m m' b (f ∙ ap (first m) (handed-is place h w popped (inv-formed h w k i))))
+
+    -- a refusal changes no word
+    pub push-full-stays : (x : ℕ) → getD h 0 0 ≤ depth (place .object h w) → Did place (push x) h w r h' w' → (r ≡ enomem) × (h' ≡ h) × (w' ≡ w)
+    push-full-stays x b d =
+        kept-no place (push x) h w d (inv-formed h w k i) (push-none (getD h 0 0) (place .object h w .held) (place .object h w .spare) x b)
+
+    pub pop-empty-stays : getD h 1 0 ≡ 0 → Did place pop h w r h' w' → (r ≡ ebusy) × (h' ≡ h) × (w' ≡ w)
+    pop-empty-stays e d = kept-no place pop h w d (inv-formed h w k i) (rw e)
+
+  -- what upstream demands is refused here
+  pub push-refuses : (x : ℕ) → place .formed h w ≡ false → Did place (push x) h w r h' w' → (r ≡ einval) × (h' ≡ h) × (w' ≡ w)
+  push-refuses x e d = kept-bad place (push x) h w d e
+
+  pub pop-refuses : place .formed h w ≡ false → Did place pop h w r h' w' → (r ≡ einval) × (h' ≡ h) × (w' ≡ w)
+  pop-refuses e d = kept-bad place pop h w d e

@@ -1,0 +1,5 @@
+pub mod Stack
+pub mod Post
+pub mod History
+pub mod HandOver
+pub mod Upstream

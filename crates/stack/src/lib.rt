@@ -1,0 +1,174 @@
+// The stack, in place: Gale's stack.rs. h: how many words it can hold, how many it holds; w: the words, the last in behind the others.
+use thread::EBUSY;
+use thread::EINVAL;
+use thread::ENOMEM;
+use thread::OK;
+ghost use mathlib.Core.Path.{_≡_};
+ghost use Rattle.store.specs.Store.{Did, looks, handed, first, Started};
+ghost use Rattle.stack.specs.Stack.{pops, pushDecide, push, pop, popped, used, free, size, full, empty, fresh, may};
+ghost use Rattle.stack.specs.Post.{place, Decided};
+
+// What a push is answered: the word is for the first that waits.
+pub const HANDS_OVER: i32 = 1;
+
+// What a pop is answered: the caller is to wait.
+pub const WAITS: i32 = 1;
+
+// Whether the memory is as it should be.
+fn formed(h: &[u32], w: &[u64]) -> bool
+    ensures { λ r. ⌜ r ≡ place .formed (now (h .entry)) (now (w .entry)) ⌝ }
+{
+    if h.len() < 2 {
+        return false;
+    }
+    if h[0] == 0 {
+        return false;
+    }
+    if h[0] < h[1] {
+        return false;
+    }
+    seq::wide(h[0]) <= w.len()
+}
+
+// OK: the word is to be stored; HANDS_OVER; ENOMEM: it is full. new_count is written unless it is refused.
+pub fn push_decide(count: u32, capacity: u32, has_waiter: bool, new_count: &mut u32) -> i32
+    ensures { λ r. ⌜ Decided (pushDecide count capacity «has_waiter») (now («new_count» .entry)) r (now («new_count» .exit)) ⌝ }
+{
+    if capacity == 0 {
+        return EINVAL;
+    }
+    if has_waiter {
+        if count != 0 {
+            return EINVAL;
+        }
+        *new_count = count;
+        return HANDS_OVER;
+    }
+    if capacity < count {
+        return EINVAL;
+    }
+    if count == capacity {
+        return ENOMEM;
+    }
+    *new_count = count + 1;
+    OK
+}
+
+// OK: there is a word; WAITS; EBUSY: there is none, and the caller may not wait. new_count is written unless it is refused.
+pub fn pop_decide(count: u32, is_no_wait: bool, new_count: &mut u32) -> i32
+    ensures { λ r. ⌜ Decided (pops count «is_no_wait») (now («new_count» .entry)) r (now («new_count» .exit)) ⌝ }
+{
+    if count != 0 {
+        *new_count = count - 1;
+        return OK;
+    }
+    if is_no_wait {
+        return EBUSY;
+    }
+    *new_count = 0;
+    WAITS
+}
+
+// OK: it is empty; EINVAL: it could hold none, or more than there is memory for.
+pub fn init(h: &mut [u32], w: &[u64], capacity: u32) -> i32
+    ensures { λ r. ⌜ Started place (may capacity (now (w .entry))) (fresh capacity (now (w .entry))) (now (h .entry)) (now (w .entry)) r (now (h .exit)) (now (w .entry)) ⌝ }
+{
+    if h.len() < 2 {
+        return EINVAL;
+    }
+    if capacity == 0 {
+        return EINVAL;
+    }
+    if w.len() < seq::wide(capacity) {
+        return EINVAL;
+    }
+    h[0] = capacity;
+    h[1] = 0;
+    OK
+}
+
+// OK: data is the last in; ENOMEM: it is full.
+pub fn push(h: &mut [u32], w: &mut [u64], data: u64) -> i32
+    ensures { λ r. ⌜ Did place (push «data») (now (h .entry)) (now (w .entry)) r (now (h .exit)) (now (w .exit)) ⌝ }
+{
+    if !formed(h, w) {
+        return EINVAL;
+    }
+    let n = h[1];
+    if n == h[0] {
+        return ENOMEM;
+    }
+    w[seq::wide(n)] = data;
+    h[1] = n + 1;
+    OK
+}
+
+// OK: data was the last in; EBUSY: it holds none.
+pub fn pop(h: &mut [u32], w: &[u64], data: &mut u64) -> i32
+    ensures { λ r. ⌜ Did place pop (now (h .entry)) (now (w .entry)) r (now (h .exit)) (now (w .entry)) ⌝ }
+    ensures { λ r. ⌜ now («data» .exit) ≡ first (now («data» .entry)) (handed place popped (now (h .entry)) (now (w .entry))) ⌝ }
+{
+    if !formed(h, w) {
+        return EINVAL;
+    }
+    let n = h[1];
+    if n == 0 {
+        return EBUSY;
+    }
+    h[1] = n - 1;
+    *data = w[seq::wide(n - 1)];
+    OK
+}
+
+pub fn num_free(h: &[u32], w: &[u64]) -> i64
+    ensures { λ r. ⌜ r ≡ looks place free (now (h .entry)) (now (w .entry)) ⌝ }
+{
+    if !formed(h, w) {
+        return -22;
+    }
+    seq::signed(h[0] - h[1])
+}
+
+pub fn num_used(h: &[u32], w: &[u64]) -> i64
+    ensures { λ r. ⌜ r ≡ looks place used (now (h .entry)) (now (w .entry)) ⌝ }
+{
+    if !formed(h, w) {
+        return -22;
+    }
+    seq::signed(h[1])
+}
+
+pub fn capacity(h: &[u32], w: &[u64]) -> i64
+    ensures { λ r. ⌜ r ≡ looks place size (now (h .entry)) (now (w .entry)) ⌝ }
+{
+    if !formed(h, w) {
+        return -22;
+    }
+    seq::signed(h[0])
+}
+
+// 1: yes; 0: no.
+pub fn is_full(h: &[u32], w: &[u64]) -> i32
+    ensures { λ r. ⌜ r ≡ looks place full (now (h .entry)) (now (w .entry)) ⌝ }
+{
+    if !formed(h, w) {
+        return EINVAL;
+    }
+    if h[1] == h[0] {
+        return 1;
+    }
+    0
+}
+
+// 1: yes; 0: no.
+pub fn is_empty(h: &[u32], w: &[u64]) -> i32
+    ensures { λ r. ⌜ r ≡ looks place empty (now (h .entry)) (now (w .entry)) ⌝ }
+{
+    if !formed(h, w) {
+        return EINVAL;
+    }
+    if h[1] == 0 {
+        return 1;
+    }
+    0
+}
