@@ -3,6 +3,7 @@ pub mod condvars;
 pub mod futexes;
 pub mod mutexes;
 pub mod queues;
+pub mod rings;
 pub mod semaphores;
 pub mod stacks;
 pub mod threads;
