@@ -27,3 +27,26 @@ const uint32_t malformed_mutexes[MALFORMED_MUTEXES][4] = {
     {1, 4, 1, 1u << 31},   {1, 4, 1, UINT32_MAX}, {0, 4, 0, UINT32_MAX},
     {1, 4, 0, UINT32_MAX}, {UINT32_MAX, UINT32_MAX, UINT32_MAX, UINT32_MAX},
 };
+
+/* Each clause alone, at its edge and far beyond it; then several. */
+const struct malformed_ring malformed_rings[MALFORMED_RINGS] = {
+    {{0, 0, 0}, 8},
+    {{8, 8, 0}, 8},
+    {{8, 9, 1}, ROOM},
+    {{8, UINT32_MAX, 8}, ROOM},
+    {{8, 0, 9}, ROOM},
+    {{8, 7, 9}, ROOM},
+    {{8, 0, UINT32_MAX}, ROOM},
+    {{8, 7, UINT32_MAX - 6}, ROOM}, /* start and count are 0 together, in 32 bits */
+    {{8, 0, 0}, 7},
+    {{8, 0, 8}, 0},
+    {{UINT32_MAX, 0, 3}, UINT32_MAX - 1ull},
+    {{0, 0, 1}, ROOM},
+    {{0, 1, 0}, 0},
+    {{8, 8, 8}, 7},
+    {{UINT32_MAX, UINT32_MAX, UINT32_MAX}, ROOM},
+};
+
+const struct sized bad_sizes[BAD_SIZES] = {
+    {0, 0}, {0, ROOM}, {1, 0}, {8, 7}, {ROOM, ROOM - 1}, {1u << 31, ROOM}, {UINT32_MAX, UINT32_MAX - 1ull},
+};

@@ -17,29 +17,39 @@ void check_equal(int64_t got, int64_t wanted, const char *file, int line, const 
 
 /* All that a test lends to the library. Before each test every byte is FILL; the guards, and the bytes between a header
  * and its entries, must be FILL after it. */
-enum { FILL = 0xA5, PLACE = WQ_MAX_WAITERS + 1 };
+enum { FILL = 0xA5, PLACE = WQ_MAX_WAITERS + 1, ROOM = 320, WORDS = 12 };
 
 struct guard {
     unsigned char bytes[32];
 };
 
+#define GUARDED(type, name)     \
+    struct guard before_##name; \
+    type name
+
 struct memory {
-    struct guard first;
-    struct wq_thread thread;
-    struct guard second;
-    struct wq_wait_queue queue;
-    struct guard third;
-    struct wq_sem sem;
-    struct guard fourth;
-    struct wq_mutex mutex;
-    struct guard fifth;
-    struct wq_condvar condvar;
-    struct guard sixth;
-    struct wq_futex futex;
-    struct guard seventh;
-    wq_woken who;
-    struct guard eighth;
-    wq_woken out[PLACE];
+    GUARDED(struct wq_thread, thread);
+    GUARDED(struct wq_wait_queue, queue);
+    GUARDED(struct wq_sem, sem);
+    GUARDED(struct wq_mutex, mutex);
+    GUARDED(struct wq_condvar, condvar);
+    GUARDED(struct wq_futex, futex);
+    GUARDED(wq_woken, who);
+    GUARDED(wq_woken, out)[PLACE];
+    GUARDED(struct wq_ring_buf, ring);
+    GUARDED(struct wq_msgq, msgq);
+    GUARDED(struct wq_pipe, pipe);
+    GUARDED(struct wq_stack, stack);
+    GUARDED(struct wq_mem_slab, slab);
+    GUARDED(uint8_t, buf)[ROOM]; /* where a ring, a message queue or a pipe keeps what it holds */
+    GUARDED(uint8_t, src)[ROOM]; /* what goes in */
+    GUARDED(uint8_t, got)[ROOM]; /* what comes out */
+    GUARDED(uint64_t, word)[WORDS];
+    GUARDED(uint32_t, link)[WORDS];
+    GUARDED(uint8_t, byte);
+    GUARDED(uint64_t, data);
+    GUARDED(uint32_t, first);
+    GUARDED(uint32_t, second);
     struct guard last;
 };
 
@@ -51,12 +61,37 @@ void allow(const void *part, size_t size); /* this part of the memory may have c
 
 #define ALLOW(part) allow(&(part), sizeof(part))
 
+/* This part of the memory is to be that since. */
+void becomes(const void *part, const void *now, size_t size);
+void word_becomes(const uint32_t *part, uint32_t now);
+
+#define UP_TO(name, most) for (uint32_t name = 0; name <= (most); name++)
+
 #define REFUSED(call, code)  \
     do {                     \
         keep();              \
         EQUAL(call, code);   \
         CHECK(stays());      \
     } while (0)
+
+/* The answer, and the numbers that the call writes to m.first and m.second: none if it refuses. */
+#define BOTH &m.first, &m.second
+
+enum { UNWRITTEN = 0x5A5A5A5A };
+
+#define DECIDES(call, code, now_first, now_second) \
+    do {                                           \
+        m.first = m.second = UNWRITTEN;            \
+        keep();                                    \
+        EQUAL(call, code);                         \
+        if ((code) >= 0) {                         \
+            word_becomes(&m.first, now_first);     \
+            word_becomes(&m.second, now_second);   \
+        }                                          \
+        CHECK(stays());                            \
+    } while (0)
+
+#define DECIDES_ONE(call, code, now) DECIDES(call, code, now, UNWRITTEN)
 
 /* m.thread is this one, and it runs. */
 struct wq_thread *running(uint32_t id, uint32_t priority);
@@ -74,6 +109,60 @@ size_t all_in_order(uint32_t *ids);
 
 /* These threads stand in m.out, each with the result, and what is behind them is as it was kept. */
 bool handed_out(int32_t result, const uint32_t *ids, size_t count);
+
+/* ---- Bytes ----------------------------------------------------------------------------------- */
+
+/* A length beyond 32 bits, and so many bytes. Hardly any of them is reached, so they take no memory. */
+#define HUGE_LEN ((uint64_t)UINT32_MAX + 4096)
+uint8_t *huge(void);
+
+/* How many of len bytes there is room for, or of which there are most. */
+int64_t lesser(uint64_t len, uint32_t most);
+
+/* A number from 0 to below. The numbers are the same in every run. */
+uint32_t random_below(uint32_t below);
+void fill_randomly(uint8_t *bytes, size_t count);
+
+/* What an object holds, in the order in which it is to come out. */
+struct held {
+    uint8_t byte[ROOM];
+    size_t count;
+};
+
+void held_behind(struct held *h, const uint8_t *bytes, size_t count);
+void held_before(struct held *h, const uint8_t *bytes, size_t count);
+void held_leaves(struct held *h, size_t count);
+
+/* An object that keeps bytes in a ring in m.buf. What its functions answer is its own; where the bytes go is not. */
+struct ring {
+    uint32_t *head; /* its size, where the first byte is, how many there are */
+    int64_t (*put)(const uint8_t *src, uint64_t len);
+    int64_t (*get)(uint8_t *out, uint64_t len);
+    int64_t (*put_answer)(uint64_t len, uint32_t space);
+    int64_t (*get_answer)(uint64_t len, uint32_t count);
+};
+
+void ring_put(const struct ring *r, uint64_t len); /* of m.src */
+void ring_get(const struct ring *r, uint64_t len); /* into m.got */
+void every_small_ring(const struct ring *r);
+void long_run_of_ring(const struct ring *r, uint32_t size);
+void longer_than_32_bits(const struct ring *r);
+
+/* ---- What is refused ------------------------------------------------------------------------- */
+
+enum { MALFORMED_RINGS = 15, BAD_SIZES = 7 };
+
+/* A ring's three words, the length of its buffer. */
+extern const struct malformed_ring {
+    uint32_t head[3];
+    uint64_t len;
+} malformed_rings[MALFORMED_RINGS];
+
+/* How much an object is to hold, the length of the memory that it is lent; it is 0 or too much. */
+extern const struct sized {
+    uint32_t size;
+    uint64_t len;
+} bad_sizes[BAD_SIZES];
 
 enum { TOO_LONG = 3, BAD_CALLERS = 8, BAD_ENTRIES = 9, MALFORMED_MUTEXES = 17 };
 
@@ -106,8 +195,11 @@ struct group {
     size_t count;
 };
 
-#define GROUP(name, tests) {name, tests, sizeof(tests) / sizeof(tests)[0]}
+#define COUNT_OF(array) (sizeof(array) / sizeof(array)[0])
 
-extern const struct group thread_group, wait_queue_group, sem_group, mutex_group, condvar_group, futex_group;
+#define GROUP(name, tests) {name, tests, COUNT_OF(tests)}
+
+extern const struct group thread_group, wait_queue_group, sem_group, mutex_group, condvar_group, futex_group,
+    ring_buf_group, msgq_group, pipe_group, stack_group, mem_slab_group;
 
 #endif

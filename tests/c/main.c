@@ -32,10 +32,14 @@ void keep(void) { memcpy(&kept, &m, sizeof m); }
 
 bool stays(void) { return memcmp(&kept, &m, sizeof m) == 0; }
 
-void allow(const void *part, size_t size)
+void becomes(const void *part, const void *now, size_t size)
 {
-    memcpy((unsigned char *)&kept + ((const unsigned char *)part - (const unsigned char *)&m), part, size);
+    memcpy((unsigned char *)&kept + ((const unsigned char *)part - (const unsigned char *)&m), now, size);
 }
+
+void word_becomes(const uint32_t *part, uint32_t now) { becomes(part, &now, sizeof now); }
+
+void allow(const void *part, size_t size) { becomes(part, part, size); }
 
 static bool filled(const void *from, const void *to)
 {
@@ -45,14 +49,48 @@ static bool filled(const void *from, const void *to)
     return true;
 }
 
+#define BEFORE(name) {&m.before_##name, &m.name}
+
+static const struct gap {
+    const void *from, *to;
+} gaps[] = {
+    BEFORE(thread),
+    BEFORE(queue),
+    {&m.queue.len + 1, m.queue.entry},
+    BEFORE(sem),
+    {m.sem.head + 3, m.sem.entry},
+    BEFORE(mutex),
+    {m.mutex.head + 4, m.mutex.entry},
+    BEFORE(condvar),
+    {m.condvar.head + 1, m.condvar.entry},
+    BEFORE(futex),
+    {m.futex.head + 2, m.futex.entry},
+    BEFORE(who),
+    BEFORE(out),
+    BEFORE(ring),
+    {m.ring.head + 3, &m.ring.buf},
+    BEFORE(msgq),
+    BEFORE(pipe),
+    BEFORE(stack),
+    BEFORE(slab),
+    BEFORE(buf),
+    BEFORE(src),
+    BEFORE(got),
+    BEFORE(word),
+    BEFORE(link),
+    BEFORE(byte),
+    BEFORE(data),
+    BEFORE(first),
+    BEFORE(second),
+    {&m.last, &m + 1},
+};
+
 static bool guards_stay(void)
 {
-    return filled(&m.first, &m.thread) && filled(&m.second, &m.queue) && filled(&m.queue.len + 1, m.queue.entry) &&
-           filled(&m.third, &m.sem) && filled(m.sem.head + 3, m.sem.entry) && filled(&m.fourth, &m.mutex) &&
-           filled(m.mutex.head + 4, m.mutex.entry) && filled(&m.fifth, &m.condvar) &&
-           filled(m.condvar.head + 1, m.condvar.entry) && filled(&m.sixth, &m.futex) &&
-           filled(m.futex.head + 2, m.futex.entry) && filled(&m.seventh, &m.who) && filled(&m.eighth, m.out) &&
-           filled(&m.last, &m + 1);
+    for (size_t i = 0; i < COUNT_OF(gaps); i++)
+        if (!filled(gaps[i].from, gaps[i].to))
+            return false;
+    return true;
 }
 
 struct wq_thread *running(uint32_t id, uint32_t priority)
@@ -90,11 +128,12 @@ bool handed_out(int32_t result, const uint32_t *ids, size_t count)
 
 int main(void)
 {
-    const struct group *groups[] = {&thread_group, &wait_queue_group, &sem_group,
-                                    &mutex_group,  &condvar_group,    &futex_group};
+    const struct group *groups[] = {&thread_group,   &wait_queue_group, &sem_group,   &mutex_group,
+                                    &condvar_group,  &futex_group,      &ring_buf_group, &msgq_group,
+                                    &pipe_group,     &stack_group,      &mem_slab_group};
     unsigned passed = 0, failed = 0;
 
-    for (size_t g = 0; g < sizeof groups / sizeof groups[0]; g++) {
+    for (size_t g = 0; g < COUNT_OF(groups); g++) {
         for (size_t i = 0; i < groups[g]->count; i++) {
             const struct test *test = &groups[g]->tests[i];
             faulty = false;
