@@ -1,4 +1,4 @@
-/* What the driver calls, for each of the three ways in which a form keeps its threads. The build defines one:
+/* What threads.c calls, for each of the three ways in which a form keeps its threads. The build defines one:
  *   FORM_ARRAY  the interface of include/waitqueue.h: ours, and C under the same names (c_array.c)
  *   FORM_LIST   threads linked into a list, as in Zephyr (c_list.c)
  *   FORM_GALE   Gale's Rust (gale.rs)
@@ -11,13 +11,8 @@
 #ifndef FORMS_H
 #define FORMS_H
 
+#include "bench.h"
 #include "waitqueue.h"
-
-/* The check sum over what a form answers; it depends on the order. */
-static inline uint32_t mix(uint32_t sum, uint32_t id, int32_t result)
-{
-    return 5 * sum + id + (uint32_t)result;
-}
 
 #if defined FORM_ARRAY
 
