@@ -18,8 +18,8 @@ enum { SAMPLE = 16384 };
  * objects hold then. */
 struct bench {
     const char *operation;
-    uint32_t number;  /* how many wait */
-    const char *kind; /* their priorities */
+    uint32_t number;  /* how many wait; or how many bytes */
+    const char *kind; /* their priorities; or where the bytes are */
     void (*prepare)(uint32_t number);
     uint32_t (*run)(uint32_t times);
     uint32_t (*rest)(uint32_t sum);
@@ -35,6 +35,8 @@ struct group {
 
 /* NULL where the form does not have it. */
 extern const struct group thread_group __attribute__((weak)); /* threads.c */
+extern const struct group bytes_group __attribute__((weak));  /* bytes.c */
+extern const struct group slab_group __attribute__((weak));   /* slab.c */
 
 void expect(bool good, const char *what); /* or the run ends */
 

@@ -1,7 +1,8 @@
 # Reads what bench/run measured, prints the table and writes the file tsv. With ask=1 it only answers, by its exit
 # status, whether the best three rounds of everything agree: 0 or 1. The status is 2 if two forms differ in a check sum.
-#   5 fields: operation, waiters, priorities, form, instructions
-#   8 fields: operation, waiters, priorities, steps, nanoseconds of a step, check sum, form, place; for each round
+#   5 fields: operation, number, kind, form, instructions
+#   8 fields: operation, number, kind, steps, nanoseconds of a step, check sum, form, place; for each round
+# Where threads wait, the number is how many, and the kind their priorities; else they are bytes and where they are.
 # The time of a form is that of the third best round, its mean over all places, at the shortest step of all rounds.
 #
 # SPDX-License-Identifier: Apache-2.0
@@ -9,7 +10,7 @@
 BEGIN {
     FS = OFS = "\t"
     noise = 0.02
-    row = "%-19s %7s  %-10s  %-18s %9s %12s %6s %7s  %s\n"
+    row = "%-19s %7s  %-10s  %-19s %9s %12s %6s %7s %7s  %s\n"
 }
 
 { name = $1 FS $2 FS $3 }
@@ -27,12 +28,21 @@ NF == 8 {
         form[++forms] = $7
     }
     if ($6 != sum[name]) {
-        differ = sum_of[name] " and " $7 " differ in what they answer, wake or hold: " $1 ", " $2 " waiters, " $3
+        differ = sum_of[name] " and " $7 " differ in what they answer, wake or hold: " $1 ", " $2 ", " $3
         exit
     }
+    has[object($1), $7] = 1
     keep_three(name SUBSEP $7 SUBSEP $8, $4 + 0)
     if (step == "" || $5 + 0 < step)
         step = $5 + 0
+}
+
+function object(operation) {
+    return substr(operation, 1, index(operation, " ") - 1)
+}
+
+function of_threads(name) {
+    return name ~ /^(sem|mutex|condvar) /
 }
 
 function keep_three(k, steps) {
@@ -89,10 +99,11 @@ function judge(ratio, aim, of) {
     return sprintf("; MISSED: at most %.1f of %s", aim, of)
 }
 
-function print_row(name, f, checked, bare,    part, count, of_checked, of_bare, note) {
+# A form that has the object, and not this operation, is left out; one without the object is not spoken of.
+function print_row(name, f, checked, bare,    part, count, of_checked, of_bare, of_rust, note) {
     split(name, part, FS)
     if (!((name, f) in time)) {
-        if (!((part[1], f) in lacking))
+        if ((object(name), f) in has && !((part[1], f) in lacking))
             left_out = left_out "left out: " part[1] " by " f ", which has none\n"
         lacking[part[1], f] = 1
         return
@@ -100,14 +111,22 @@ function print_row(name, f, checked, bare,    part, count, of_checked, of_bare, 
     count = (name, f) in instructions ? instructions[name, f] : "-"
     of_checked = time[name, f] / time[name, checked]
     of_bare = time[name, f] / time[name, bare]
+    if ((name, "rust") in time)
+        of_rust = time[name, f] / time[name, "rust"]
     if (f == "wq") {
         note = "held against " checked " and " bare judge(of_checked, 1, "C")
-        if (part[2] == 0)
+        if (of_threads(name) && part[2] == 0)
             note = note judge(of_bare, 1.2, "bare C")
+        if (of_rust != "")
+            note = note judge(of_rust, 1, "Rust")
     }
     printf row, part[1], part[2], part[3], f, sprintf("%.2f", time[name, f]) (steady[name, f] ? " " : "~"), count,
-        sprintf("%.2f", of_checked), sprintf("%.2f", of_bare), note
+        sprintf("%.2f", of_checked), sprintf("%.2f", of_bare), of_rust == "" ? "" : sprintf("%.2f", of_rust), note
     print name, f, sprintf("%.3f", time[name, f]), count > tsv
+}
+
+function print_titles(number, kind, rust) {
+    printf row, "operation", number, kind, "form", "ns ", "instructions", "of C", "of bare", rust, ""
 }
 
 END {
@@ -124,10 +143,14 @@ END {
     }
 
     print "of C: the time, divided by that of the best C with the same refusals; of bare: of the best C without any"
+    print "of Rust: by that of Rust with the same refusals"
     print "~: the best three rounds are more than 2 % apart\n"
-    printf row, "operation", "waiters", "priorities", "form", "ns ", "instructions", "of C", "of bare", ""
-    print "operation", "waiters", "priorities", "form", "nanoseconds", "instructions" > tsv
+    print "operation", "number", "kind", "form", "nanoseconds", "instructions" > tsv
     for (c = 1; c <= cases; c++) {
+        if (of_threads(case_name[c]) && c == 1)
+            print_titles("waiters", "priorities", "")
+        if (!of_threads(case_name[c]) && (c == 1 || of_threads(case_name[c - 1])))
+            print_titles("bytes", "at the end", "of Rust")
         checked = best_c(case_name[c], 0)
         bare = best_c(case_name[c], 1)
         for (i = 1; i <= forms; i++)
