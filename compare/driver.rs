@@ -1,6 +1,9 @@
 //! Compares libwaitqueue.a with Gale's Rust.
 
 mod answer;
+mod decide;
+mod lent;
+mod lent_memory;
 mod memory;
 mod numbers;
 mod objects {
@@ -8,10 +11,20 @@ mod objects {
     pub mod condvar_rules;
     pub mod futex;
     pub mod futex_rules;
+    pub mod mem_slab;
+    pub mod mem_slab_rules;
+    pub mod msgq;
+    pub mod msgq_rules;
     pub mod mutex;
     pub mod mutex_rules;
+    pub mod pipe;
+    pub mod pipe_rules;
+    pub mod ring_buf;
+    pub mod ring_buf_rules;
     pub mod sem;
     pub mod sem_rules;
+    pub mod stack;
+    pub mod stack_rules;
     pub mod thread;
     pub mod wait_queue;
     pub mod wait_queue_rules;
@@ -33,5 +46,10 @@ fn main() -> std::process::ExitCode {
     objects::mutex::compare(&mut report, SEED);
     objects::condvar::compare(&mut report, SEED);
     objects::futex::compare(&mut report, SEED);
+    objects::ring_buf::compare(&mut report, SEED);
+    objects::msgq::compare(&mut report, SEED);
+    objects::pipe::compare(&mut report, SEED);
+    objects::stack::compare(&mut report, SEED);
+    objects::mem_slab::compare(&mut report, SEED);
     report.finish()
 }

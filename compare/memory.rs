@@ -6,12 +6,13 @@ use crate::answer::{Answer, Caller};
 use crate::ours::{entry_of, Library, Memory, BLOCKED, EBUSY, EINVAL, ENOMEM, RUNNING, WAITERS, WAITS};
 use crate::report::{Kind, Report, Tally};
 use crate::rng::Rng;
+use std::fmt::Debug;
 
-const MALFORMED: &str = "a malformed header: -22";
+pub const MALFORMED: &str = "a malformed header: -22";
 const REFUSED: &str = "a well-formed header, a refusal in its order";
 const DONE: &str = "a well-formed header, done";
 
-const MEMORIES: usize = 20_000;
+pub const MEMORIES: usize = 20_000;
 const NUMBERS: [u32; 14] = [0, 0, 0, 0, 1, 2, 3, 5, 63, 64, 65, 1 << 31, u32::MAX - 1, u32::MAX];
 const LENGTHS: [u32; 12] = [0, 0, 1, 2, 3, 4, 17, 63, 64, 65, 1 << 31, u32::MAX];
 
@@ -247,19 +248,22 @@ fn check_numbers<R: Rules<N>, const N: usize>(memory: &Memory<N>) -> Result<Kind
     Ok(Kind::Outside(if malformed { MALFORMED } else { DONE }))
 }
 
-fn checks<R: Rules<N>, const N: usize>(memory: &Memory<N>, rng: &mut Rng) -> Vec<(String, Result<Kind, String>)> {
+/// What was asked, and what came of it.
+pub type Checks = Vec<(String, Result<Kind, String>)>;
+
+fn checks<R: Rules<N>, const N: usize>(memory: &Memory<N>, rng: &mut Rng) -> Checks {
     let calls = R::calls(memory, rng).into_iter();
     let mut all: Vec<_> = calls.map(|call| (format!("{call:?}"), check_call::<R, N>(memory, call))).collect();
     all.push(("numbers and audit".to_string(), check_numbers::<R, N>(memory)));
     all
 }
 
-/// Goes on after a deviation, so that the one is named that is told in the fewest words.
-fn compare_all<R: Rules<N>, const N: usize>(rng: &mut Rng, tally: &mut Tally) -> Result<(), String> {
+/// Memories, each with what came of the calls on it. Goes on after a deviation, so that the one is named that is told
+/// in the fewest words.
+pub fn compare_all<M: Debug>(all: impl Iterator<Item = (M, Checks)>, tally: &mut Tally) -> Result<(), String> {
     let mut shortest: Option<String> = None;
-    for _ in 0..MEMORIES {
-        let memory = any_memory::<N>(rng);
-        for (what, outcome) in checks::<R, N>(&memory, rng) {
+    for (memory, checks) in all {
+        for (what, outcome) in checks {
             match outcome {
                 Ok(kind) => tally.count(kind),
                 Err(why) => {
@@ -275,5 +279,11 @@ fn compare_all<R: Rules<N>, const N: usize>(rng: &mut Rng, tally: &mut Tally) ->
 }
 
 pub fn compare<R: Rules<N>, const N: usize>(report: &mut Report, name: &'static str, seed: u64) {
-    report.run(name, &[MALFORMED, REFUSED, DONE], |tally| compare_all::<R, N>(&mut Rng::new(seed), tally));
+    let mut rng = Rng::new(seed);
+    let all = (0..MEMORIES).map(|_| {
+        let memory = any_memory::<N>(&mut rng);
+        let checks = checks::<R, N>(&memory, &mut rng);
+        (memory, checks)
+    });
+    report.run(name, &[MALFORMED, REFUSED, DONE], |tally| compare_all(all, tally));
 }

@@ -1,9 +1,16 @@
 //! The library under test: include/waitqueue.h, with the objects' memory between guards.
 
 pub mod condvar;
+pub mod far;
 pub mod futex;
+pub mod lent;
+pub mod mem_slab;
+pub mod msgq;
 pub mod mutex;
+pub mod pipe;
+pub mod ring_buf;
 pub mod sem;
+pub mod stack;
 pub mod thread;
 pub mod wait_queue;
 
@@ -18,8 +25,11 @@ pub const EAGAIN: i32 = -11;
 pub const ENOMEM: i32 = -12;
 pub const EBUSY: i32 = -16;
 pub const EINVAL: i32 = -22;
+pub const EPIPE: i32 = -32;
+pub const ENOMSG: i32 = -35;
 pub const EDEADLK: i32 = -45;
 pub const EOVERFLOW: i32 = -139;
+pub const ECANCELED: i32 = -140;
 
 pub const RUNNING: u32 = 1;
 pub const BLOCKED: u32 = 2;

@@ -2,9 +2,11 @@
 //!
 //!     record COMMIT > recorded.txt
 
-// The sample needs a part of these two; the comparison needs all.
+// The sample needs a part of these three; the comparison needs all.
 #[allow(dead_code)]
 mod answer;
+#[allow(dead_code)]
+mod decide;
 mod rng;
 mod sample;
 #[allow(dead_code)]

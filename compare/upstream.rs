@@ -2,8 +2,13 @@
 
 pub mod condvar;
 pub mod futex;
+pub mod mem_slab;
+pub mod msgq;
 pub mod mutex;
+pub mod pipe;
+pub mod ring_buf;
 pub mod sem;
+pub mod stack;
 pub mod thread;
 pub mod wait_queue;
 
@@ -20,4 +25,35 @@ pub trait Upstream {
     fn apart(&self, call: Self::Call) -> Option<Self::Apart>;
     fn call(&mut self, call: Self::Call) -> Answer;
     fn copy(&self) -> Self;
+}
+
+/// An object of Gale that holds indices and counts, and leaves the elements to its caller.
+pub trait Counts {
+    type Call: Copy + Debug;
+
+    /// A slot or a number, or a code below 0.
+    fn call(&mut self, call: Self::Call) -> i64;
+    /// What the functions answer that only read.
+    fn numbers(&self) -> Vec<i64>;
+    fn copy(&self) -> Self;
+}
+
+/// What an init answers that makes the object anew.
+fn remade<T>(object: &mut T, made: Result<T, i32>) -> i64 {
+    match made {
+        Ok(new) => {
+            *object = new;
+            0
+        }
+        Err(code) => code.into(),
+    }
+}
+
+fn slot(answer: Result<u32, i32>) -> i64 {
+    answer.map_or_else(i64::from, i64::from)
+}
+
+/// Gale counts in u32: what is longer is as the longest.
+fn counted(len: u64) -> u32 {
+    len.try_into().unwrap_or(u32::MAX)
 }
