@@ -2,6 +2,7 @@
 
 use std::panic::{catch_unwind, AssertUnwindSafe};
 use std::process::ExitCode;
+use std::sync::Mutex;
 
 /// What a step was, once both sides agreed as they should.
 #[derive(Clone, Copy)]
@@ -46,6 +47,19 @@ fn total(counts: &[(&'static str, u64)]) -> u64 {
     counts.iter().map(|(_, count)| count).sum()
 }
 
+/// The comparison that runs now.
+static NOW: Mutex<&str> = Mutex::new("");
+
+extern "C" {
+    fn signal(number: i32, then: extern "C" fn(i32)) -> usize;
+}
+
+/// The library reached for what it may not reach.
+extern "C" fn stopped(number: i32) {
+    println!("{}: FAILED\n  stopped by signal {number}", NOW.lock().unwrap());
+    std::process::exit(1);
+}
+
 struct Row {
     name: &'static str,
     tally: Tally,
@@ -58,13 +72,18 @@ pub struct Report {
 }
 
 impl Report {
-    /// One comparison. It fails on a deviation, on a panic, and if one of `must_see` never came up.
+    /// One comparison. It fails on a deviation, on a panic, and if one of `must_see` never came up. A signal ends all.
     pub fn run(
         &mut self,
         name: &'static str,
         must_see: &[&'static str],
         compare: impl FnOnce(&mut Tally) -> Result<(), String>,
     ) {
+        *NOW.lock().unwrap() = name;
+        let (bus, floating_point, segment) = (7, 8, 11);
+        for number in [bus, floating_point, segment] {
+            unsafe { signal(number, stopped) };
+        }
         let mut tally = Tally::default();
         let mut outcome = catch_unwind(AssertUnwindSafe(|| compare(&mut tally)))
             .unwrap_or_else(|_| Err("stopped by a panic, see above".to_string()));
@@ -80,11 +99,11 @@ impl Report {
     }
 
     pub fn finish(self) -> ExitCode {
-        println!("{:44}{:>12}{:>12}{:>12}  result", "comparison", "same", "outside", "intended");
+        println!("{:48}{:>12}{:>12}{:>12}  result", "comparison", "same", "outside", "intended");
         for Row { name, tally, failed } in &self.rows {
             let (same, outside, differs) = (tally.same, total(&tally.outside), total(&tally.differs));
             let result = if *failed { "FAILED" } else { "ok" };
-            println!("{name:44}{same:>12}{outside:>12}{differs:>12}  {result}");
+            println!("{name:48}{same:>12}{outside:>12}{differs:>12}  {result}");
         }
         self.list("outside upstream's preconditions, where ours alone answers", |tally| &tally.outside);
         self.list("intended: both answer, and ours differs", |tally| &tally.differs);
