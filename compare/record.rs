@@ -33,6 +33,13 @@ fn header(commit: &str) {
         "# queue, and what its mutex holds; a futex its value and its queue. A thread holds its id, priority, state"
     );
     println!("# and return value. Answers are codes of include/waitqueue.h.");
+    println!(
+        "# A ring buffer, message queue, pipe, stack and memory slab hold what their functions answer that only read."
+    );
+    println!(
+        "# Where something is put into a slot, got or peeked at, the answer is the slot. A free names a block by its"
+    );
+    println!("# place among those that are out. A decide function leaves the numbers that it writes.");
     println!("# A line \"test\" begins one test, with new objects.");
 }
 
@@ -70,4 +77,9 @@ fn main() {
     sample::mutex::tests(&mut rng);
     sample::condvar::tests(&mut rng);
     sample::futex::tests(&mut rng);
+    sample::ring_buf::tests(&mut rng);
+    sample::msgq::tests(&mut rng);
+    sample::pipe::tests(&mut rng);
+    sample::stack::tests(&mut rng);
+    sample::mem_slab::tests(&mut rng);
 }

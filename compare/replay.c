@@ -2,24 +2,13 @@
  *
  *     replay recorded.txt
  */
-#include "waitqueue.h"
+#include "replay.h"
 
 #include <stdio.h>
 #include <stdlib.h>
 #include <string.h>
 
-enum { MAX_NUMBERS = 160, MAX_LINE = 4096 };
-
-struct numbers {
-    int n;
-    long long v[MAX_NUMBERS];
-};
-
-/* What an operation answered, what the object holds then, and what else went wrong. */
-struct result {
-    struct numbers answer, after;
-    const char *broken;
-};
+enum { MAX_LINE = 4096 };
 
 static struct wq_thread thread;
 static struct wq_wait_queue queue;
@@ -27,14 +16,6 @@ static struct wq_sem sem;
 static struct wq_mutex mutex;
 static struct wq_condvar condvar;
 static struct wq_futex futex;
-
-static void put(struct numbers *to, long long v)
-{
-    if (to->n < MAX_NUMBERS)
-        to->v[to->n++] = v;
-}
-
-static void answer(struct result *r, long long v) { put(&r->answer, v); }
 
 static void answer_woken(struct result *r, wq_woken who)
 {
@@ -436,11 +417,7 @@ static const struct {
     {"MAX_WAITERS", WQ_MAX_WAITERS},
 };
 
-static const struct {
-    const char *name;
-    int inputs;
-    void (*replay)(const long long *in, struct result *r);
-} operations[] = {
+static const struct operation operations[] = {
     {"priority.new", 1, priority_new},
     {"priority.get", 1, priority_get},
     {"priority.is_higher_than", 2, priority_is_higher_than},
@@ -480,9 +457,20 @@ static const struct {
     {"futex.val_set", 1, futex_val_set},
     {"futex.wait_decide", 2, futex_wait_decide},
     {"futex.wake_decide", 2, futex_wake_decide},
+    {0},
 };
 
 #define COUNT(table) (sizeof(table) / sizeof(table)[0])
+
+static bool run_one(const struct operation *table, const char *name, const struct numbers *in, struct result *r)
+{
+    for (; table->name; table++)
+        if (strcmp(name, table->name) == 0 && in->n == table->inputs) {
+            table->replay(in->v, r);
+            return true;
+        }
+    return false;
+}
 
 /* Does what the line says; false if there is no such operation. */
 static bool run(const char *name, const struct numbers *in, struct result *r)
@@ -492,12 +480,7 @@ static bool run(const char *name, const struct numbers *in, struct result *r)
             answer(r, constants[i].value);
             return true;
         }
-    for (size_t i = 0; i < COUNT(operations); i++)
-        if (strcmp(name, operations[i].name) == 0 && in->n == operations[i].inputs) {
-            operations[i].replay(in->v, r);
-            return true;
-        }
-    return false;
+    return run_one(operations, name, in, r) || run_one(lent_operations, name, in, r);
 }
 
 /* Reads numbers up to the given sign or the end of the line; false for anything else. */

@@ -2,15 +2,21 @@
 
 pub mod condvar;
 pub mod futex;
+pub mod mem_slab;
+pub mod msgq;
 pub mod mutex;
+pub mod pipe;
+pub mod ring_buf;
 pub mod sem;
+pub mod stack;
 pub mod thread;
 pub mod wait_queue;
 
 use crate::answer::{Answer, Caller};
+use crate::decide::Decide;
 use crate::rng::Rng;
 use crate::upstream::wait_queue::waiting;
-use crate::upstream::Upstream;
+use crate::upstream::{Counts, Upstream};
 use gale::wait_queue::WaitQueue;
 
 const SEQUENCES: u32 = 20;
@@ -72,4 +78,51 @@ fn some_threads(rng: &mut Rng) -> Vec<Caller> {
     let (count, levels) = (rng.pick(&[3, 5, 9]), rng.pick(&[1, 2, 3, 32]));
     let factor = rng.pick(&[1, 1 << 16, 1 << 28]);
     (0..count).map(|i| Caller { id: i * factor, priority: 31 - i * 7 % levels }).collect()
+}
+
+/// An object in the sample that only counts. Its answer is a slot where Gale answers that.
+trait Tallied: Counts {
+    /// The name of the operation, and its inputs.
+    fn words(call: Self::Call) -> (&'static str, Vec<i64>);
+}
+
+fn record_counts<T: Tallied>(object: &mut T, call: T::Call) {
+    let (operation, inputs) = T::words(call);
+    let answer = object.call(call);
+    println!("{operation}{} = {answer} ;{}", words(inputs), words(object.numbers()));
+}
+
+/// Half as many as of an object with a queue. Each begins with an init.
+fn sequences<T: Tallied>(
+    name: &str,
+    rng: &mut Rng,
+    start: impl Fn(&mut Rng) -> (T, T::Call),
+    draw: impl Fn(&T, &mut Rng) -> T::Call,
+) {
+    for number in 1..=SEQUENCES / 2 {
+        test(&format!("{name}, sequence {number}"));
+        let (mut object, init) = start(rng);
+        record_counts(&mut object, init);
+        for _ in 0..LENGTH {
+            let call = draw(&object, rng);
+            record_counts(&mut object, call);
+        }
+    }
+}
+
+/// Where ours does not decide as Gale does, nothing is recorded.
+fn decisions(name: &str, decides: &[Decide]) {
+    test(&format!("{name}, decide functions"));
+    for decide in decides {
+        for input in decide.inputs(&[0, 1, 2, u32::MAX]).iter().filter(|input| (decide.apart)(input).is_none()) {
+            let decision = (decide.gale)(input);
+            let inputs = words(input.iter().map(|&number| number.into()));
+            println!(
+                "{}{inputs} = {} ;{}",
+                decide.name,
+                decision.code,
+                words(decision.numbers.into_iter().map(i64::from))
+            );
+        }
+    }
 }
