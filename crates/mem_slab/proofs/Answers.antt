@@ -1,0 +1,138 @@
+-- How each answer of a function meets the slab's definition. Assumes nothing.
+use mathlib.Core.Path.{_≡_, refl, sym, ap}
+use mathlib.Core.Bool.{Bool, true, false}
+use mathlib.Core.List.{List, _∷_}
+use Prim.Native.Nat.{ℕ, _+_, _-_, _≤_, _<_}
+use native.Mathlib.Numerals.{add-one}
+use native.Mathlib.Omega.{arith}
+use lib.IntN.{ℤ, pos}
+use lib.ListN.{getD, take, set, length-set}
+use lib.Seq.{getD-take, take-set-lt, drop-set-lt}
+use borrow.Author.Tests.{lt-ltb, le-ltb, le-leb, lt-leb, eq-eqb, ne-eqb}
+use Rattle.thread.specs.Code.{ok, enomem, einval}
+use Rattle.store.specs.Store.{Reply, refuse, accept, answer, settled, Becomes}
+use Rattle.store.proofs.Laws.{did-no, did-yes}
+use Rattle.mem_slab.specs.Slab.{Slab, waits, woke, leads, alloc, free}
+use Rattle.mem_slab.specs.Post.{slab, place, led, isFull, isEmpty, Allocs, Frees, Decided, AllocDecided, FreeDecided}
+use Rattle.mem_slab.proofs.Memory.{Sound, sound-is, Fit, leads-is, next-link, Four, four}
+
+-- on plain numbers
+module _ {y : Reply ℕ} {m : ℕ} where
+  decided : {n : ℕ} {r : ℤ} → y ≡ accept n r → Decided y m r n
+  decided e = record { code = sym (ap answer e); number = sym (ap (λ (x : Reply ℕ). settled (λ k. k) x m) e) }
+
+  undecided : {r : ℤ} → y ≡ refuse r → Decided y m r m
+  undecided e = record { code = sym (ap answer e); number = sym (ap (λ (x : Reply ℕ). settled (λ k. k) x m) e) }
+
+module _ (u n m : ℕ) where
+  pub alloc-none : (w : Bool) → n ≡ 0 → AllocDecided u n w m einval m
+  alloc-none w h = undecided (rw (le-ltb 0 n (omega arith)))
+
+  module _ (b : 0 < n) where
+    pub alloc-one : (w : Bool) → u < n → AllocDecided u n w m ok (u + 1)
+    alloc-one w h = decided (rw (lt-ltb 0 n b, le-leb u n (omega arith), lt-ltb u n h, add-one u))
+
+    pub alloc-over : (w : Bool) → n < u → AllocDecided u n w m einval m
+    alloc-over w h = undecided (rw (lt-ltb 0 n b, lt-leb u n h))
+
+    pub alloc-refused : u ≡ n → AllocDecided u n true m enomem m
+    alloc-refused h = undecided (rw (lt-ltb 0 n b, le-leb u n (omega arith), le-ltb u n (omega arith)))
+
+    pub alloc-waits : u ≡ n → AllocDecided u n false m waits u
+    alloc-waits h = decided (rw (lt-ltb 0 n b, le-leb u n (omega arith), le-ltb u n (omega arith)))
+
+module _ (u m : ℕ) where
+  pub free-none : (w : Bool) → u ≡ 0 → FreeDecided u w m einval m
+  free-none w h = undecided (rw (eq-eqb u 0 h))
+
+  module _ (b : u ≡ 0 → ⊥) where
+    pub free-woke : FreeDecided u true m woke u
+    free-woke = decided (rw (ne-eqb u 0 b))
+
+    pub free-one : FreeDecided u false m ok (u - 1)
+    free-one = decided (rw (ne-eqb u 0 b))
+
+-- the header's last two words and one link are written
+stored : (a z u x : ℕ) (t l : List ℕ) → Sound (a ∷ z ∷ u ∷ x ∷ t) l → (u' x' i v : ℕ) → u' ≤ a → x' < a → i < a
+    → Becomes place (record { blocks = a; size = z; used = u'; next = x'; link = set (take a l) i v }) (a ∷ z ∷ u ∷ x ∷ t) l (a ∷ z ∷ u' ∷ x' ∷ t) (set l i v)
+stored a z u x t l s u' x' i v p q k =
+    record {
+      formed = sound-is (a ∷ z ∷ u' ∷ x' ∷ t) (set l i v)
+          (record { words = s .words; blocks = s .blocks; sized = s .sized; few = p; inside = q; room = rw (length-set l i v) (s .room) });
+      object = rw (take-set-lt a l i v k);
+      beside = refl;
+      rest = drop-set-lt a l i v k;
+      long = (refl, length-set l i v);
+    }
+
+module _ (h l : List ℕ) (f : Fit h l) where
+  abbrev blocks : ℕ
+  blocks = getD h 0 0
+
+  abbrev used : ℕ
+  used = getD h 2 0
+
+  abbrev next : ℕ
+  next = getD h 3 0
+
+  formed : place .formed h l ≡ true
+  formed = sound-is h l (f .sound)
+
+  is-leading : leads (slab h l) ≡ true
+  is-leading = leads-is h l (f .sound) (f .free, f .named)
+
+  pub writes : (u' x' i v : ℕ) → u' ≤ getD h 0 0 → x' < getD h 0 0 → i < getD h 0 0
+      → Becomes place (record { blocks = getD h 0 0; size = getD h 1 0; used = u'; next = x'; link = set (take (getD h 0 0) l) i v }) h l (set (set h 2 u') 3 x') (set l i v)
+  writes = go (four h (f .sound .words))
+    where
+      go : Four h → (u' x' i v : ℕ) → u' ≤ getD h 0 0 → x' < getD h 0 0 → i < getD h 0 0
+          → Becomes place (record { blocks = getD h 0 0; size = getD h 1 0; used = u'; next = x'; link = set (take (getD h 0 0) l) i v }) h l (set (set h 2 u') 3 x') (set l i v)
+      go g = rw (g .is) (stored (g .blocks) (g .size) (g .used) (g .next) (g .rest) l (rw (g .is) at (f .sound)))
+
+  -- alloc
+  pub all-out : used ≡ blocks → Allocs h l enomem h l
+  all-out e = did-no place (led alloc) h l formed (rw (is-leading, le-ltb used blocks (omega arith)))
+
+  pub gives : (used ≡ blocks → ⊥) → Allocs h l (pos next) (set (set h 2 (used + 1)) 3 (getD l next 0 - 1)) (set l next 0)
+  gives e =
+      let s = f .sound in
+      let k : used < blocks = omega (arith, s .few) in
+      let p : 0 < getD l next 0 = f .free k in
+      let q : getD l next 0 ≤ blocks = f .named k in
+      did-yes place (led alloc) h l formed (rw (is-leading, lt-ltb used blocks k, next-link h l s, ← add-one used))
+      (writes (used + 1) (getD l next 0 - 1) next 0 (omega arith) (omega arith) (s .inside))
+
+  -- free
+  module _ (b : ℕ) where
+    pub no-block : blocks ≤ b → Frees b h l einval h l
+    no-block e = did-no place (led (free b)) h l formed (rw (is-leading, le-ltb b blocks e))
+
+    module _ (here : b < getD h 0 0) where
+      own-link : getD (take (getD h 0 0) l) b 0 ≡ getD l b 0
+      own-link = getD-take (getD h 0 0) l b 0 here
+
+      pub not-out : (getD l b 0 ≡ 0 → ⊥) → Frees b h l einval h l
+      not-out e = did-no place (led (free b)) h l formed (rw (is-leading, lt-ltb b blocks here, own-link, ne-eqb (getD l b 0) 0 e))
+
+      module _ (out : getD l b 0 ≡ 0) where
+        pub none-out : used ≡ 0 → Frees b h l einval h l
+        none-out e = did-no place (led (free b)) h l formed (rw (is-leading, lt-ltb b blocks here, own-link, eq-eqb (getD l b 0) 0 out, eq-eqb used 0 e))
+
+        pub takes : (used ≡ 0 → ⊥) → Frees b h l ok (set (set h 2 (used - 1)) 3 b) (set l b (next + 1))
+        takes e =
+            did-yes place (led (free b)) h l formed
+            (rw (is-leading, lt-ltb b blocks here, own-link, eq-eqb (getD l b 0) 0 out, ne-eqb used 0 e, ← add-one next))
+            (writes (used - 1) b b (next + 1) (omega (arith, f .sound .few)) here here)
+
+-- what is asked of a slab
+pub full : (s : Slab) → s .used ≡ s .blocks → isFull s ≡ pos 1
+full s e = rw (eq-eqb (s .used) (s .blocks) e)
+
+pub not-full : (s : Slab) → (s .used ≡ s .blocks → ⊥) → isFull s ≡ pos 0
+not-full s e = rw (ne-eqb (s .used) (s .blocks) e)
+
+pub empty : (s : Slab) → s .used ≡ 0 → isEmpty s ≡ pos 1
+empty s e = rw (eq-eqb (s .used) 0 e)
+
+pub not-empty : (s : Slab) → (s .used ≡ 0 → ⊥) → isEmpty s ≡ pos 0
+not-empty s e = rw (ne-eqb (s .used) 0 e)

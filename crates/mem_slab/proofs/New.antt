@@ -1,0 +1,76 @@
+-- The links of a new slab, and init's answers. Assumes nothing.
+use mathlib.Core.Path.{_≡_, refl, sym, ap, _∙_}
+use mathlib.Core.List.{List, [], _∷_, _++_, append-assoc}
+use Prim.Native.Nat.{ℕ, zero, suc, _+_, _-_, _≤_, _<_}
+use native.Mathlib.Numerals.{add-one}
+use native.Mathlib.Omega.{arith}
+use lib.ListN.{length, getD, drop, set, length-append, length-drop}
+use lib.Seq.{drop-cons, set-at, take-at, drop-at}
+use borrow.Author.Tests.{lt-ltb, le-ltb, le-leb, lt-leb}
+use Rattle.thread.specs.Code.{ok, einval}
+use Rattle.store.specs.Store.{Becomes}
+use Rattle.store.proofs.Laws.{start-short, start-bad, start-made}
+use Rattle.mem_slab.specs.Slab.{upFrom, fresh}
+use Rattle.mem_slab.specs.Post.{place, Starts}
+use Rattle.mem_slab.proofs.Memory.{sound-is, Four, four}
+
+pub length-up : (k n : ℕ) → length (upFrom k n) ≡ n
+length-up k zero = refl
+length-up k (suc n) = ap suc (length-up (suc k) n)
+
+up-more : (k n x : ℕ) (t : List ℕ) → x ≡ n + k → upFrom k n ++ x ∷ t ≡ upFrom k (suc n) ++ t
+up-more k zero x t e = let z : x ≡ k = omega arith in ap (λ (y : ℕ). y ∷ t) z
+up-more k (suc n) x t e = ap (λ (l : List ℕ). k ∷ l) (up-more (suc k) n x t (omega arith))
+
+-- the links of i blocks are written
+abbrev pub linked : ℕ → List ℕ → List ℕ
+linked i l = upFrom 2 i ++ drop i l
+
+pub length-linked : (i : ℕ) (l : List ℕ) → i ≤ length l → length (linked i l) ≡ length l
+length-linked i l k = omega (arith, length-append (upFrom 2 i) (drop i l), length-up 2 i, length-drop i l)
+
+module _ (i : ℕ) (l : List ℕ) (k : i < length l) where
+  writes-at : (x : ℕ) → set (linked i l) i x ≡ upFrom 2 i ++ x ∷ drop (suc i) l
+  writes-at x = rw (drop-cons l i 0 k) (set-at (upFrom 2 i) (getD l i 0) (drop (suc i) l) x i (length-up 2 i))
+
+  pub linked-more : set (linked i l) i (i + 2) ≡ linked (i + 1) l
+  linked-more = writes-at (i + 2) ∙ up-more 2 i (i + 2) (drop (suc i) l) refl ∙ rw (add-one i)
+
+  -- and the last one's names the first
+  pub linked-all : set (linked i l) i 1 ≡ (upFrom 2 i ++ 1 ∷ []) ++ drop (suc i) l
+  linked-all = writes-at 1 ∙ sym (append-assoc (upFrom 2 i) (1 ∷ []) (drop (suc i) l))
+
+module _ (z n : ℕ) (h l : List ℕ) where
+  pub short : length h < 4 → Starts z n h l einval h l
+  short k = start-short k
+
+  module _ (w : 4 ≤ length h) where
+    pub no-size : z ≡ 0 → Starts z n h l einval h l
+    no-size e = start-bad w (rw (le-ltb 0 z (omega arith)))
+
+    pub no-blocks : 0 < z → n ≡ 0 → Starts z n h l einval h l
+    no-blocks a e = start-bad w (rw (lt-ltb 0 z a, le-ltb 0 n (omega arith)))
+
+    pub no-room : 0 < z → 0 < n → length l < n → Starts z n h l einval h l
+    no-room a b e = start-bad w (rw (lt-ltb 0 z a, lt-ltb 0 n b, lt-leb n (length l) e))
+
+    pub starts : 0 < z → 0 < n → n ≤ length l → (i : ℕ) → i ≡ n - 1 → Starts z n h l ok (set (set (set (set h 0 n) 1 z) 2 0) 3 0) (set (linked i l) i 1)
+    starts a b c i e =
+        let m : suc i ≡ n = omega arith in
+        rw (linked-all i l (omega arith), m)
+        (start-made w (rw (lt-ltb 0 z a, lt-ltb 0 n b) (le-leb n (length l) c))
+        (go (four h w) (upFrom 2 i ++ 1 ∷ []) (omega (arith, length-append (upFrom 2 i) (1 ∷ []), length-up 2 i)) (rw e)))
+      where
+        go : Four h → (k : List ℕ) → length k ≡ n → k ≡ fresh z n .link
+            → Becomes place (fresh z n) h l (set (set (set (set h 0 n) 1 z) 2 0) 3 0) (k ++ drop n l)
+        go f k y x =
+            let m : length (k ++ drop n l) ≡ length l = omega (arith, length-append k (drop n l), length-drop n l) in
+            rw (f .is)
+            (record {
+              formed = sound-is (n ∷ z ∷ 0 ∷ 0 ∷ f .rest) (k ++ drop n l)
+                  (record { words = omega arith; blocks = b; sized = a; few = omega arith; inside = b; room = omega arith });
+              object = rw (take-at k (drop n l) n y, x);
+              beside = refl;
+              rest = drop-at k (drop n l) n y;
+              long = (refl, m);
+            })

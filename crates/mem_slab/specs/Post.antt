@@ -1,0 +1,64 @@
+-- The slab in memory: h = how many blocks, a block's size, how many are out, the block that is given next; l = the links. What each
+-- function does.
+use mathlib.Core.Path.{_≡_}
+use mathlib.Core.Bool.{Bool, true, false, cond, _&&_}
+use mathlib.Core.List.{List}
+use Prim.Native.Nat.{ℕ}
+use lib.Dec.{ltb, leb, eqb}
+use lib.IntN.{ℤ, pos}
+use lib.ListN.{length, getD, take}
+use Rattle.thread.specs.Code.{einval}
+use Rattle.store.specs.Store.{Reply, refuse, answer, settled, Place, Did, looks, Started}
+use Rattle.mem_slab.specs.Slab.{Slab, sound, leads, allocs, frees, alloc, free, fresh}
+
+abbrev pub slab : List ℕ → List ℕ → Slab
+slab h l = record { blocks = getD h 0 0; size = getD h 1 0; used = getD h 2 0; next = getD h 3 0; link = take (getD h 0 0) l }
+
+abbrev pub place : Place Slab
+place = record { words = 4; size = λ h. getD h 0 0; object = slab; formed = λ h l. leb 4 (length h) && sound (slab h l) }
+
+-- as it should be, as far as constant work can tell. In memory that init did not make, the block that is next after an alloc may name
+-- none: the call after it finds out, and refuses
+abbrev pub fit : List ℕ → List ℕ → Bool
+fit h l = place .formed h l && leads (slab h l)
+
+abbrev pub led : {S : Type 0} → (Slab → Reply S) → Slab → Reply S
+led f s = cond (leads s) (f s) (refuse einval)
+
+abbrev pub Allocs : List ℕ → List ℕ → ℤ → List ℕ → List ℕ → Type 0
+Allocs = Did place (led alloc)
+
+abbrev pub Frees : ℕ → List ℕ → List ℕ → ℤ → List ℕ → List ℕ → Type 0
+Frees b = Did place (led (free b))
+
+-- a number of a slab
+abbrev pub sees : (Slab → ℤ) → List ℕ → List ℕ → ℤ
+sees f = looks place (λ s. cond (leads s) (f s) einval)
+
+-- 1: yes; 0: no
+abbrev pub truth : Bool → ℤ
+truth true = pos 1
+truth false = pos 0
+
+-- all are out
+abbrev pub isFull : Slab → ℤ
+isFull s = truth (eqb (s .used) (s .blocks))
+
+-- none is
+abbrev pub isEmpty : Slab → ℤ
+isEmpty s = truth (eqb (s .used) 0)
+
+-- a new slab, of some blocks of some size, each with a link
+abbrev pub Starts : ℕ → ℕ → List ℕ → List ℕ → ℤ → List ℕ → List ℕ → Type 0
+Starts size blocks h l = Started place (ltb 0 size && (ltb 0 blocks && leb blocks (length l))) (fresh size blocks) h l
+
+-- a decision: the answer, and the number m, which stays if it is a refusal
+pub record Decided (y : Reply ℕ) (m : ℕ) (r : ℤ) (m' : ℕ) : Type 0 where
+  pub code : r ≡ answer y
+  pub number : m' ≡ settled (λ n. n) y m
+
+abbrev pub AllocDecided : ℕ → ℕ → Bool → ℕ → ℤ → ℕ → Type 0
+AllocDecided used blocks noWait = Decided (cond (ltb 0 blocks && leb used blocks) (allocs used blocks noWait) (refuse einval))
+
+abbrev pub FreeDecided : ℕ → Bool → ℕ → ℤ → ℕ → Type 0
+FreeDecided used waiter = Decided (frees used waiter)

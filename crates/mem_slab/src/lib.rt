@@ -1,0 +1,219 @@
+// The memory slab, in place: Gale's mem_slab.rs, with the list of free blocks. h: how many blocks, a block's size, how many are out, the
+// block that is given next; l: a link for each block.
+use thread::EINVAL;
+use thread::ENOMEM;
+use thread::OK;
+ghost use mathlib.Core.Path.{_≡_};
+ghost use mathlib.Core.Bool.{Bool};
+ghost use Prim.Native.Nat.{ℕ, _-_};
+ghost use lib.IntN.{pos};
+ghost use Rattle.mem_slab.specs.Slab.{Slab};
+ghost use Rattle.mem_slab.specs.Post.{fit, Allocs, Frees, sees, isFull, isEmpty, Starts, AllocDecided, FreeDecided};
+
+// What alloc_decide answers one that is to wait.
+pub const WAITS: i32 = 1;
+
+// What free_decide answers if the block goes to one that waits.
+pub const WOKE: i32 = 1;
+
+// Whether the memory is as it should be.
+fn formed(h: &[u32], l: &[u32]) -> bool
+    ensures { λ r. ⌜ r ≡ fit (now (h .entry)) (now (l .entry)) ⌝ }
+{
+    if h.len() < 4 {
+        return false;
+    }
+    let blocks = h[0];
+    let used = h[2];
+    let next = h[3];
+    if h[1] == 0 {
+        return false;
+    }
+    if blocks < used {
+        return false;
+    }
+    if blocks <= next {
+        return false;
+    }
+    if l.len() < seq::wide(blocks) {
+        return false;
+    }
+    if used == blocks {
+        return true;
+    }
+    let link = l[seq::wide(next)];
+    if link == 0 {
+        return false;
+    }
+    link <= blocks
+}
+
+// OK: one more is out; WAITS: none is free; ENOMEM: none is free, and the caller does not wait.
+pub fn alloc_decide(num_used: u32, num_blocks: u32, is_no_wait: bool, new_used: &mut u32) -> i32
+    ensures { λ r. ⌜ AllocDecided «num_used» «num_blocks» «is_no_wait» (now («new_used» .entry)) r (now («new_used» .exit)) ⌝ }
+{
+    if num_blocks == 0 {
+        return EINVAL;
+    }
+    if num_used < num_blocks {
+        *new_used = num_used + 1;
+        return OK;
+    }
+    if num_blocks < num_used {
+        return EINVAL;
+    }
+    if is_no_wait {
+        return ENOMEM;
+    }
+    *new_used = num_used;
+    WAITS
+}
+
+// OK: one fewer is out; WOKE: as many are, and one that waits has the block; EINVAL: none is out.
+pub fn free_decide(num_used: u32, has_waiter: bool, new_used: &mut u32) -> i32
+    ensures { λ r. ⌜ FreeDecided «num_used» «has_waiter» (now («new_used» .entry)) r (now («new_used» .exit)) ⌝ }
+{
+    if num_used == 0 {
+        return EINVAL;
+    }
+    if has_waiter {
+        *new_used = num_used;
+        return WOKE;
+    }
+    *new_used = num_used - 1;
+    OK
+}
+
+// OK.
+pub fn init(h: &mut [u32], l: &mut [u32], block_size: u32, num_blocks: u32) -> i32
+    ensures { λ r. ⌜ Starts «block_size» «num_blocks» (now (h .entry)) (now (l .entry)) r (now (h .exit)) (now (l .exit)) ⌝ }
+{
+    if h.len() < 4 {
+        return EINVAL;
+    }
+    if block_size == 0 {
+        return EINVAL;
+    }
+    if num_blocks == 0 {
+        return EINVAL;
+    }
+    if l.len() < seq::wide(num_blocks) {
+        return EINVAL;
+    }
+    h[0] = num_blocks;
+    h[1] = block_size;
+    h[2] = 0;
+    h[3] = 0;
+    let mut i: u32 = 0;
+    while i < num_blocks - 1 {
+        l[seq::wide(i)] = i + 2;
+        i += 1;
+    }
+    l[seq::wide(i)] = 1;
+    OK
+}
+
+// The block; ENOMEM: all are out.
+pub fn alloc(h: &mut [u32], l: &mut [u32]) -> i64
+    ensures { λ r. ⌜ Allocs (now (h .entry)) (now (l .entry)) r (now (h .exit)) (now (l .exit)) ⌝ }
+{
+    if !formed(h, l) {
+        return -22;
+    }
+    let used = h[2];
+    if used == h[0] {
+        return -12;
+    }
+    let block = h[3];
+    let at = seq::wide(block);
+    h[2] = used + 1;
+    h[3] = l[at] - 1;
+    l[at] = 0;
+    seq::signed(block)
+}
+
+// OK: the block was out and is not; it is given next.
+pub fn free(h: &mut [u32], l: &mut [u32], block: u32) -> i32
+    ensures { λ r. ⌜ Frees block (now (h .entry)) (now (l .entry)) r (now (h .exit)) (now (l .exit)) ⌝ }
+{
+    if !formed(h, l) {
+        return EINVAL;
+    }
+    if h[0] <= block {
+        return EINVAL;
+    }
+    let at = seq::wide(block);
+    if l[at] != 0 {
+        return EINVAL;
+    }
+    let used = h[2];
+    if used == 0 {
+        return EINVAL;
+    }
+    l[at] = h[3] + 1;
+    h[2] = used - 1;
+    h[3] = block;
+    OK
+}
+
+pub fn num_used_get(h: &[u32], l: &[u32]) -> i64
+    ensures { λ r. ⌜ r ≡ sees (λ (s : Slab). pos (s .used)) (now (h .entry)) (now (l .entry)) ⌝ }
+{
+    if !formed(h, l) {
+        return -22;
+    }
+    seq::signed(h[2])
+}
+
+pub fn num_free_get(h: &[u32], l: &[u32]) -> i64
+    ensures { λ r. ⌜ r ≡ sees (λ (s : Slab). pos (s .blocks - s .used)) (now (h .entry)) (now (l .entry)) ⌝ }
+{
+    if !formed(h, l) {
+        return -22;
+    }
+    seq::signed(h[0] - h[2])
+}
+
+pub fn num_blocks_get(h: &[u32], l: &[u32]) -> i64
+    ensures { λ r. ⌜ r ≡ sees (λ (s : Slab). pos (s .blocks)) (now (h .entry)) (now (l .entry)) ⌝ }
+{
+    if !formed(h, l) {
+        return -22;
+    }
+    seq::signed(h[0])
+}
+
+pub fn block_size_get(h: &[u32], l: &[u32]) -> i64
+    ensures { λ r. ⌜ r ≡ sees (λ (s : Slab). pos (s .size)) (now (h .entry)) (now (l .entry)) ⌝ }
+{
+    if !formed(h, l) {
+        return -22;
+    }
+    seq::signed(h[1])
+}
+
+// 1: all blocks are out; 0.
+pub fn is_full(h: &[u32], l: &[u32]) -> i32
+    ensures { λ r. ⌜ r ≡ sees isFull (now (h .entry)) (now (l .entry)) ⌝ }
+{
+    if !formed(h, l) {
+        return EINVAL;
+    }
+    if h[2] == h[0] {
+        return 1;
+    }
+    0
+}
+
+// 1: none is out; 0.
+pub fn is_empty(h: &[u32], l: &[u32]) -> i32
+    ensures { λ r. ⌜ r ≡ sees isEmpty (now (h .entry)) (now (l .entry)) ⌝ }
+{
+    if !formed(h, l) {
+        return EINVAL;
+    }
+    if h[2] == 0 {
+        return 1;
+    }
+    0
+}
