@@ -5,5 +5,6 @@ pub mod mutexes;
 pub mod queues;
 pub mod rings;
 pub mod semaphores;
+pub mod slabs;
 pub mod stacks;
 pub mod threads;
