@@ -1,3 +1,7 @@
 pub mod Memory
 pub mod Answers
 pub mod New
+pub mod Outs
+pub mod Chain
+pub mod Stack
+pub mod Histories

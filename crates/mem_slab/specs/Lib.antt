@@ -1,2 +1,4 @@
 pub mod Slab
 pub mod Post
+pub mod Blocks
+pub mod History

@@ -1,0 +1,93 @@
+-- Counting, and lists along links. Assumes nothing.
+use mathlib.Core.Path.{_≡_, refl, sym, ap, _∙_}
+use mathlib.Core.Bool.{Bool, true, false, cond}
+use mathlib.Core.List.{List, [], _∷_, _++_}
+use Prim.Native.Nat.{ℕ, zero, suc, _+_, _-_, _≤_, _<_}
+use native.Mathlib.Omega.{arith}
+use lib.Dec.{ltb, leb, eqb}
+use lib.ListN.{getD, set}
+use lib.Seq.{getD-set-other}
+use borrow.Author.Tests.{lt-ltb, le-ltb, le-leb, lt-leb, eq-eqb, ne-eqb, eqb-true, eqb-false, ltb-true, ltb-false}
+use Rattle.seq.proofs.Order.{clash}
+use Rattle.mem_slab.specs.Slab.{upFrom}
+use Rattle.mem_slab.specs.History.{count, number, along}
+
+pub count-first : (x : ℕ) (l : List ℕ) → count x (x ∷ l) ≡ suc (count x l)
+count-first x l = rw (eq-eqb x x refl)
+
+pub count-other : (x y : ℕ) (l : List ℕ) → (y ≡ x → ⊥) → count x (y ∷ l) ≡ count x l
+count-other x y l d = rw (ne-eqb y x d)
+
+-- where b stands nowhere along the links, its own is not read
+pub along-same : (l : List ℕ) (b v c m : ℕ) → count b (along l c m) ≡ 0 → along (set l b v) c m ≡ along l c m
+along-same l b v c zero e = refl
+along-same l b v c (suc m) e = go (eqb c b) refl e (along-same l b v (getD l c 0 - 1) m)
+  where
+    go : (t : Bool) → eqb c b ≡ t → cond t (suc (count b (along l (getD l c 0 - 1) m))) (count b (along l (getD l c 0 - 1) m)) ≡ 0
+        → (count b (along l (getD l c 0 - 1) m) ≡ 0 → along (set l b v) (getD l c 0 - 1) m ≡ along l (getD l c 0 - 1) m)
+        → along (set l b v) c (suc m) ≡ along l c (suc m)
+    go true t z ih = absurd (omega arith)
+    go false t z ih = rw (getD-set-other l b c v 0 (eqb-false c b t)) (ap (λ (k : List ℕ). c ∷ k) (ih z))
+
+-- each link names the next: the numbers in order
+pub along-up : (l : List ℕ) (n i m : ℕ) → i + m ≤ n → ((j : ℕ) → suc j < n → getD l j 0 ≡ suc (suc j)) → along l i m ≡ upFrom i m
+along-up l n i zero h f = refl
+along-up l n i (suc zero) h f = refl
+along-up l n i (suc (suc m)) h f =
+    let z : getD l i 0 - 1 ≡ suc i = omega (arith, f i (omega arith)) in
+    rw z (ap (λ (k : List ℕ). i ∷ k) (along-up l n (suc i) (suc m) (omega arith) f))
+
+-- one that passes more
+module _ (f g : ℕ → Bool) (b : ℕ) (was : f b ≡ false) (is : g b ≡ true) (same : (i : ℕ) → (i ≡ b → ⊥) → g i ≡ f i) where
+  number-same : (n : ℕ) → n ≤ b → number g n ≡ number f n
+  number-same zero h = refl
+  number-same (suc n) h = rw (same n (λ e. omega arith), number-same n (omega arith))
+
+  pub number-more : (n : ℕ) → b < n → number g n ≡ suc (number f n)
+  number-more zero h = absurd (omega arith)
+  number-more (suc n) h = go (eqb n b) refl (number-more n)
+    where
+      other : (c : Bool) (m : ℕ) → cond c (suc (suc m)) (suc m) ≡ suc (cond c (suc m) m)
+      other true m = refl
+      other false m = refl
+
+      go : (t : Bool) → eqb n b ≡ t → (b < n → number g n ≡ suc (number f n)) → number g (suc n) ≡ suc (number f (suc n))
+      go true t ih = let e : n ≡ b = eqb-true n b t in rw (e, is, was, number-same b (omega arith))
+      go false t ih = let d : n ≡ b → ⊥ = eqb-false n b t in rw (same n d, ih (omega arith)) (other (f n) (number f n))
+
+pub number-none : (f : ℕ → Bool) (n : ℕ) → ((i : ℕ) → f i ≡ false) → number f n ≡ 0
+number-none f zero h = refl
+number-none f (suc n) h = rw (h n, number-none f n h)
+
+pub number-ext : (f g : ℕ → Bool) (n : ℕ) → ((i : ℕ) → f i ≡ g i) → number f n ≡ number g n
+number-ext f g zero h = refl
+number-ext f g (suc n) h = rw (h n, number-ext f g n h)
+
+pub number-some : (f : ℕ → Bool) (b n : ℕ) → b < n → f b ≡ true → 0 < number f n
+number-some f b zero h e = absurd (omega arith)
+number-some f b (suc n) h e = go (eqb n b) refl (λ k. number-some f b n k e)
+  where
+    pick : (c : Bool) → 0 < number f n → 0 < cond c (suc (number f n)) (number f n)
+    pick true k = omega arith
+    pick false k = k
+
+    go : (t : Bool) → eqb n b ≡ t → (b < n → 0 < number f n) → 0 < number f (suc n)
+    go true t ih = rw (eqb-true n b t, e) (omega arith)
+    go false t ih = let d : n ≡ b → ⊥ = eqb-false n b t in pick (f n) (ih (omega arith))
+
+-- the numbers from k on, each once
+count-below : (b k n : ℕ) → b < k → count b (upFrom k n) ≡ 0
+count-below b k zero h = refl
+count-below b k (suc n) h = rw (ne-eqb k b (λ e. omega arith)) (count-below b (suc k) n (omega arith))
+
+pub count-above : (b k n : ℕ) → k + n ≤ b → count b (upFrom k n) ≡ 0
+count-above b k zero h = refl
+count-above b k (suc n) h = rw (ne-eqb k b (λ e. omega arith)) (count-above b (suc k) n (omega arith))
+
+pub count-up : (b k n : ℕ) → k ≤ b → b < k + n → count b (upFrom k n) ≡ 1
+count-up b k zero h e = absurd (omega arith)
+count-up b k (suc n) h e = go (eqb k b) refl (count-up b (suc k) n)
+  where
+    go : (t : Bool) → eqb k b ≡ t → (suc k ≤ b → b < suc k + n → count b (upFrom (suc k) n) ≡ 1) → count b (upFrom k (suc n)) ≡ 1
+    go true t ih = rw t (ap suc (count-below b (suc k) n (omega (arith, eqb-true k b t))))
+    go false t ih = let d : k ≡ b → ⊥ = eqb-false k b t in rw t (ih (omega arith) (omega arith))

@@ -1,0 +1,78 @@
+-- What a caller may believe of blocks, in any memory: sound, malformed, or made by nobody.
+use mathlib.Core.Path.{_≡_}
+use mathlib.Core.Bool.{Bool, true, false, cond, _&&_}
+use mathlib.Core.List.{List, [], _∷_}
+use Prim.Native.Nat.{ℕ, _<_}
+use lib.Dec.{eqb}
+use lib.IntN.{ℤ, pos, negsuc}
+use lib.ListN.{getD}
+use Rattle.thread.specs.Code.{ok}
+use Rattle.store.specs.Store.{Reply, Did}
+use Rattle.mem_slab.specs.Slab.{Slab, isOut, alloc, free}
+use Rattle.mem_slab.specs.Post.{slab, place, led}
+
+-- the calls that change a slab
+pub data Call : Type 0 where
+  allocs : Call
+  frees : (block : ℕ) → Call
+
+abbrev pub meant : Call → Slab → Reply Slab
+meant allocs = alloc
+meant (frees b) = free b
+
+-- the call k on the memory h and l: the answer r, and the memory after it
+abbrev pub Calls : Call → List ℕ → List ℕ → ℤ → List ℕ → List ℕ → Type 0
+Calls k = Did place (led (meant k))
+
+-- a call and its answer
+pub record Event : Type 0 where
+  pub call : Call
+  pub answer : ℤ
+
+-- the events xs, the last in front, from the memory h₀ and l₀ to the memory h and l
+pub data Run (h₀ l₀ : List ℕ) : List Event → List ℕ → List ℕ → Type 0 where
+  start : Run h₀ l₀ [] h₀ l₀
+  then : {xs : List Event} {h l h' l' : List ℕ} (k : Call) (r : ℤ) → Run h₀ l₀ xs h l → Calls k h l r h' l'
+      → Run h₀ l₀ (record { call = k; answer = r } ∷ xs) h' l'
+
+-- whether the block b is somebody's, by calls and answers alone: from an allocation that answers it to a free of it that answers 0
+abbrev pub changed : Call → ℤ → ℕ → Bool → Bool
+changed allocs (pos i) b was = cond (eqb i b) true was
+changed allocs (negsuc n) b was = was
+changed (frees i) (pos n) b was = cond (eqb i b) false was
+changed (frees i) (negsuc n) b was = was
+
+abbrev pub held : List Event → ℕ → Bool
+held [] b = false
+held (x ∷ xs) b = changed (x .call) (x .answer) b (held xs b)
+
+abbrev pub out : List ℕ → List ℕ → ℕ → Bool
+out h l b = isOut (slab h l) b
+
+abbrev pub OthersStay : ℕ → List ℕ → List ℕ → List ℕ → List ℕ → Type 0
+OthersStay b h l h' l' = (i : ℕ) → (i ≡ b → ⊥) → out h' l' i ≡ out h l i
+
+-- an allocation answered b: it is a block, was not out, and is; no other block's state changes
+pub record Given (b : ℕ) (h l h' l' : List ℕ) : Type 0 where
+  pub here : b < getD h 0 0
+  pub before : out h l b ≡ false
+  pub after : out h' l' b ≡ true
+  pub others : OthersStay b h l h' l'
+
+-- a free of b answered 0: it was out, and is not; no other block's state changes
+pub record Returned (b : ℕ) (h l h' l' : List ℕ) : Type 0 where
+  pub before : out h l b ≡ true
+  pub after : out h' l' b ≡ false
+  pub others : OthersStay b h l h' l'
+
+-- all that one call can do, and what callers hold of it
+abbrev pub Outcome : Call → ℤ → List ℕ → List ℕ → List ℕ → List ℕ → Type 0
+Outcome allocs (pos b) h l h' l' = Given b h l h' l'
+Outcome (frees b) (pos n) h l h' l' = (n ≡ 0) × Returned b h l h' l'
+Outcome allocs (negsuc n) h l h' l' = (h' ≡ h) × (l' ≡ l)
+Outcome (frees b) (negsuc n) h l h' l' = (h' ≡ h) × (l' ≡ l)
+
+-- no two callers hold one block: an allocation never answers a block that somebody holds
+abbrev pub NoTwo : List ℕ → List ℕ → Type 0
+NoTwo h₀ l₀ =
+    (xs : List Event) (h l h' l' : List ℕ) (b : ℕ) → Run h₀ l₀ xs h l → Calls allocs h l (pos b) h' l' → held xs b ≡ false
