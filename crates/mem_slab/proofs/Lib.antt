@@ -5,3 +5,4 @@ pub mod Outs
 pub mod Chain
 pub mod Stack
 pub mod Histories
+pub mod HandOver

@@ -2,3 +2,4 @@ pub mod Slab
 pub mod Post
 pub mod Blocks
 pub mod History
+pub mod HandOver
