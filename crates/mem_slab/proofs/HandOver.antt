@@ -21,13 +21,13 @@ use Rattle.mem_slab.proofs.Outs.{alloc-cases, free-cases}
 
 -- memory that holds the same slab and, beside it, the same words is the same
 module _ (h l h' l' : List ℕ) (e : slab h' l' ≡ slab h l) where
-  same-header : 4 ≤ length h → length h' ≡ length h → drop 4 h' ≡ drop 4 h → h' ≡ h
+  pub same-header : 4 ≤ length h → length h' ≡ length h → drop 4 h' ≡ drop 4 h → h' ≡ h
   same-header w m d = go (four h w) (four h' (omega arith)) (ap (λ (s : Slab). s .blocks) e) (ap (λ (s : Slab). s .size) e) (ap (λ (s : Slab). s .used) e) (ap (λ (s : Slab). s .next) e) d
     where
       go : Four h → Four h' → getD h' 0 0 ≡ getD h 0 0 → getD h' 1 0 ≡ getD h 1 0 → getD h' 2 0 ≡ getD h 2 0 → getD h' 3 0 ≡ getD h 3 0 → drop 4 h' ≡ drop 4 h → h' ≡ h
       go f g = rw (f .is, g .is) (λ p q r s t. cc)
 
-  same-links : drop (getD h 0 0) l' ≡ drop (getD h 0 0) l → l' ≡ l
+  pub same-links : drop (getD h 0 0) l' ≡ drop (getD h 0 0) l → l' ≡ l
   same-links d =
       let b : getD h' 0 0 ≡ getD h 0 0 = ap (λ (s : Slab). s .blocks) e in
       let t : take (getD h 0 0) l' ≡ take (getD h 0 0) l = rw b at (ap (λ (s : Slab). s .link) e) in
@@ -46,7 +46,7 @@ module _ (n z u x b : ℕ) (k : List ℕ) (some-out : 0 < u) (few : u ≤ n) (in
       let y : suc x - 1 ≡ x = omega arith in
       rw (lt-ltb (u - 1) n (omega arith), getD-set-same k b (suc x) 0 (omega arith), lt-ltb 0 (suc x) (omega arith), le-leb (suc x) n (omega arith), y, back, unset)
 
-refused-ok : {P : Type 0} {n : ℕ} → ok ≡ negsuc n → P
+pub refused-ok : {P : Type 0} {n : ℕ} → ok ≡ negsuc n → P
 refused-ok e = absurd (let y : _≡_ {A = ℕ} 0 1 = cc in omega arith)
 
 pub hand-over : (b : ℕ) (h l : List ℕ) → HandOver b h l

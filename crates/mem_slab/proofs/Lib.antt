@@ -6,3 +6,4 @@ pub mod Chain
 pub mod Stack
 pub mod Histories
 pub mod HandOver
+pub mod Upstream
