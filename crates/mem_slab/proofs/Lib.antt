@@ -7,3 +7,4 @@ pub mod Stack
 pub mod Histories
 pub mod HandOver
 pub mod Upstream
+pub mod Example
