@@ -1,20 +1,21 @@
 -- How each answer of a function meets the slab's definition. Assumes nothing.
 use mathlib.Core.Path.{_≡_, refl, sym, ap}
-use mathlib.Core.Bool.{Bool, true, false}
+use mathlib.Core.Bool.{Bool, true, false, _&&_}
 use mathlib.Core.List.{List, _∷_}
 use Prim.Native.Nat.{ℕ, _+_, _-_, _≤_, _<_}
 use native.Mathlib.Numerals.{add-one}
 use native.Mathlib.Omega.{arith}
+use lib.Dec.{ltb, eqb}
 use lib.IntN.{ℤ, pos}
 use lib.ListN.{getD, take, set, length-set}
 use lib.Seq.{getD-take, take-set-lt, drop-set-lt}
-use borrow.Author.Tests.{lt-ltb, le-ltb, le-leb, lt-leb, eq-eqb, ne-eqb}
+use borrow.Author.Tests.{lt-ltb, le-ltb, le-leb, lt-leb, ltb-true, eq-eqb, ne-eqb}
 use Rattle.thread.specs.Code.{ok, enomem, einval}
 use Rattle.store.specs.Store.{Reply, refuse, accept, answer, settled, Becomes}
 use Rattle.store.proofs.Laws.{did-no, did-yes}
-use Rattle.mem_slab.specs.Slab.{Slab, waits, woke, leads, alloc, free}
-use Rattle.mem_slab.specs.Post.{slab, place, led, isFull, isEmpty, Allocs, Frees, Decided, AllocDecided, FreeDecided}
-use Rattle.mem_slab.proofs.Memory.{Sound, sound-is, Fit, leads-is, next-link, Four, four}
+use Rattle.mem_slab.specs.Slab.{Slab, isOut, waits, woke, leads, alloc, free}
+use Rattle.mem_slab.specs.Post.{slab, place, fit, led, isFull, isEmpty, Allocs, Frees, Decided, AllocDecided, FreeDecided}
+use Rattle.mem_slab.proofs.Memory.{both, Sound, sound-is, Fit, fit-is, is-fit, leads-is, next-link, unfit, Four, four}
 
 -- on plain numbers
 module _ {y : Reply ℕ} {m : ℕ} where
@@ -102,27 +103,40 @@ module _ (h l : List ℕ) (f : Fit h l) where
       did-yes place (led alloc) h l formed (rw (is-leading, lt-ltb used blocks k, next-link h l s, ← add-one used))
       (writes (used + 1) (getD l next 0 - 1) next 0 (omega arith) (omega arith) (s .inside))
 
-  -- free
+  -- whether a block is out
   module _ (b : ℕ) where
-    pub no-block : blocks ≤ b → Frees b h l einval h l
-    no-block e = did-no place (led (free b)) h l formed (rw (is-leading, le-ltb b blocks e))
+    pub no-block : blocks ≤ b → false ≡ (fit h l && isOut (slab h l) b)
+    no-block e = rw (fit-is h l f, le-ltb b blocks e)
 
-    module _ (here : b < getD h 0 0) where
-      own-link : getD (take (getD h 0 0) l) b 0 ≡ getD l b 0
-      own-link = getD-take (getD h 0 0) l b 0 here
+    pub by-link : b < blocks → eqb (getD l b 0) 0 ≡ (fit h l && isOut (slab h l) b)
+    by-link e = rw (fit-is h l f, lt-ltb b blocks e, getD-take blocks l b 0 e)
 
-      pub not-out : (getD l b 0 ≡ 0 → ⊥) → Frees b h l einval h l
-      not-out e = did-no place (led (free b)) h l formed (rw (is-leading, lt-ltb b blocks here, own-link, ne-eqb (getD l b 0) 0 e))
+  -- free
+  module _ (b : ℕ) (o : isOut (slab h l) b ≡ true) where
+    pub none-out : used ≡ 0 → Frees b h l einval h l
+    none-out e = did-no place (led (free b)) h l formed (rw (is-leading, o, eq-eqb used 0 e))
 
-      module _ (out : getD l b 0 ≡ 0) where
-        pub none-out : used ≡ 0 → Frees b h l einval h l
-        none-out e = did-no place (led (free b)) h l formed (rw (is-leading, lt-ltb b blocks here, own-link, eq-eqb (getD l b 0) 0 out, eq-eqb used 0 e))
+    pub here : b < getD h 0 0
+    here = ltb-true b blocks (both (ltb b blocks) _ o .0)
 
-        pub takes : (used ≡ 0 → ⊥) → Frees b h l ok (set (set h 2 (used - 1)) 3 b) (set l b (next + 1))
-        takes e =
-            did-yes place (led (free b)) h l formed
-            (rw (is-leading, lt-ltb b blocks here, own-link, eq-eqb (getD l b 0) 0 out, ne-eqb used 0 e, ← add-one next))
-            (writes (used - 1) b b (next + 1) (omega (arith, f .sound .few)) here here)
+    pub takes : (used ≡ 0 → ⊥) → Frees b h l ok (set (set h 2 (used - 1)) 3 b) (set l b (next + 1))
+    takes e =
+        did-yes place (led (free b)) h l formed (rw (is-leading, o, ne-eqb used 0 e, ← add-one next))
+        (writes (used - 1) b b (next + 1) (omega (arith, f .sound .few)) here here)
+
+-- a block that is not out, and memory that is not as it should be
+module _ (b : ℕ) (h l : List ℕ) where
+  pub unfit-block : fit h l ≡ false → false ≡ (fit h l && isOut (slab h l) b)
+  unfit-block e = rw e
+
+  pub not-out : (fit h l && isOut (slab h l) b) ≡ false → Frees b h l einval h l
+  not-out e = go (fit h l) refl e
+    where
+      go : (c : Bool) → fit h l ≡ c → (c && isOut (slab h l) b) ≡ false → Frees b h l einval h l
+      go false t o = unfit h l (free b) t
+      go true t o =
+          let f = is-fit h l t in
+          did-no place (led (free b)) h l (sound-is h l (f .sound)) (rw (leads-is h l (f .sound) (f .free, f .named), o))
 
 -- what is asked of a slab
 pub full : (s : Slab) → s .used ≡ s .blocks → isFull s ≡ pos 1

@@ -1,16 +1,15 @@
 -- Runs of slabs, computed. Assumes nothing.
 use mathlib.Core.Path.{_≡_, refl}
-use mathlib.Core.Bool.{Bool, true, false}
+use mathlib.Core.Bool.{true, false}
 use mathlib.Core.List.{List, [], _∷_}
-use Prim.Native.Nat.{ℕ}
 use lib.IntN.{ℤ, pos}
 use Rattle.thread.specs.Code.{ok, enomem, einval}
 use Rattle.store.specs.Store.{Reply, refuse, accept, answer, reply}
 use Rattle.mem_slab.specs.Slab.{Slab, alloc, free, fresh}
 use Rattle.mem_slab.specs.Post.{slab, place, fit, led, Starts}
-use Rattle.mem_slab.specs.Blocks.{Call, allocs, frees, meant, Calls, Event, Run, start, then, held}
+use Rattle.mem_slab.specs.Blocks.{Call, allocs, frees, meant, Calls, Run, start, then, held}
 use Rattle.mem_slab.specs.History.{freeList}
-use Rattle.mem_slab.specs.HandOver.{Ask, allocates, releases, Counts, after}
+use Rattle.mem_slab.specs.HandOver.{Ask, allocates, releases, after}
 use Rattle.mem_slab.proofs.New.{starts}
 use native.Mathlib.Omega.{arith}
 
@@ -42,7 +41,7 @@ free-are = refl
 
 -- in memory: init, an alloc, a free; a fifth word and a third link are not the slab's
 pub inited : Starts 16 2 (9 ∷ 9 ∷ 9 ∷ 9 ∷ 9 ∷ []) (9 ∷ 9 ∷ 9 ∷ []) ok (2 ∷ 16 ∷ 0 ∷ 0 ∷ 9 ∷ []) (2 ∷ 1 ∷ 9 ∷ [])
-inited = starts 16 2 (9 ∷ 9 ∷ 9 ∷ 9 ∷ 9 ∷ []) (9 ∷ 9 ∷ 9 ∷ []) (omega arith) (omega arith) (omega arith) (omega arith) 1 refl
+inited = starts 16 2 (9 ∷ 9 ∷ 9 ∷ 9 ∷ 9 ∷ []) (9 ∷ 9 ∷ 9 ∷ []) (omega arith) (omega arith) (omega arith) (omega arith) (2 ∷ 1 ∷ 9 ∷ []) refl
 
 pub gave : Calls allocs (2 ∷ 16 ∷ 0 ∷ 0 ∷ 9 ∷ []) (2 ∷ 1 ∷ 9 ∷ []) (pos 0) (2 ∷ 16 ∷ 1 ∷ 1 ∷ 9 ∷ []) (0 ∷ 1 ∷ 9 ∷ [])
 gave = record { code = refl; after = record { formed = refl; object = refl; beside = refl; rest = refl; long = (refl, refl) } }

@@ -1,23 +1,22 @@
 -- A block that is handed over; nobody waits in vain. Assumes nothing.
-use mathlib.Core.Path.{_≡_, refl, sym, ap, subst, _∙_}
-use mathlib.Core.Bool.{Bool, true, false, cond, _&&_}
-use mathlib.Core.List.{List, [], _∷_, _++_}
-use Prim.Native.Nat.{ℕ, zero, suc, _-_, _≤_, _<_}
+use mathlib.Core.Path.{_≡_, refl, sym, ap, _∙_}
+use mathlib.Core.Bool.{Bool, true, false}
+use mathlib.Core.List.{List, [], _∷_}
+use Prim.Native.Nat.{ℕ, suc, _-_, _≤_, _<_}
 use native.Mathlib.Omega.{arith}
 use lib.Dec.{ltb, eqb}
-use lib.IntN.{ℤ, pos, negsuc}
+use lib.IntN.{pos, negsuc}
 use lib.ListN.{length, getD, take, drop, set, take-append-drop}
 use lib.Seq.{set-set, set-getD, getD-set-same, length-take-le}
-use borrow.Author.Tests.{lt-ltb, le-ltb, le-leb, ltb-true, ltb-false, eq-eqb, ne-eqb, eqb-true, eqb-false}
-use Rattle.seq.proofs.Order.{clash}
-use Rattle.thread.specs.Code.{ok, enomem, einval}
-use Rattle.store.specs.Store.{Reply, refuse, accept, answer, After, Becomes}
+use borrow.Author.Tests.{lt-ltb, le-leb, ltb-true, ltb-false, ne-eqb, eqb-true}
+use Rattle.thread.specs.Code.{ok}
+use Rattle.store.specs.Store.{accept, answer, After, Becomes}
 use Rattle.store.proofs.Laws.{became, answers}
-use Rattle.mem_slab.specs.Slab.{Slab, isOut, allocs, frees, woke, alloc, given, returned}
-use Rattle.mem_slab.specs.Post.{slab, place, led, Allocs, Frees}
+use Rattle.mem_slab.specs.Slab.{Slab, isOut, alloc, returned}
+use Rattle.mem_slab.specs.Post.{slab, place, led}
 use Rattle.mem_slab.specs.HandOver.{HandedOver, HandOver, Counts, Ask, allocates, releases, next, after, NoneInVain}
-use Rattle.mem_slab.proofs.Memory.{both, Fit, Sound, is-sound, Four, four}
-use Rattle.mem_slab.proofs.Outs.{alloc-cases, free-cases}
+use Rattle.mem_slab.proofs.Memory.{both, Fit, Four, four}
+use Rattle.mem_slab.proofs.Outs.{free-cases}
 
 -- memory that holds the same slab and, beside it, the same words is the same
 module _ (h l h' l' : List ℕ) (e : slab h' l' ≡ slab h l) where

@@ -1,23 +1,22 @@
 -- Any sequence of calls from init keeps what a slab promises. Assumes nothing.
 use mathlib.Core.Path.{_≡_, refl, sym, ap, subst, _∙_}
-use mathlib.Core.Bool.{Bool, true, false, cond, not, _&&_}
+use mathlib.Core.Bool.{Bool, true, false}
 use mathlib.Core.List.{List, [], _∷_}
-use Prim.Native.Nat.{ℕ, suc, _-_, _≤_, _<_}
+use Prim.Native.Nat.{ℕ, _-_, _<_}
 use native.Mathlib.Omega.{arith}
-use lib.Dec.{ltb, leb}
-use lib.IntN.{ℤ, pos}
-use lib.ListN.{length, getD, drop}
-use borrow.Author.Tests.{lt-ltb, ltb-true}
+use lib.IntN.{ℤ}
+use lib.ListN.{getD, drop}
+use borrow.Author.Tests.{lt-ltb}
 use Rattle.seq.proofs.Order.{clash}
 use Rattle.thread.specs.Code.{ok, einval}
 use Rattle.store.specs.Store.{answer, Becomes, After}
-use Rattle.mem_slab.specs.Slab.{Slab, isOut, given, returned, fresh}
+use Rattle.mem_slab.specs.Slab.{Slab, isOut}
 use Rattle.mem_slab.specs.Post.{slab, place, fit, Starts}
 use Rattle.mem_slab.specs.Blocks.{Call, allocs, frees, Calls, Event, Run, start, then, changed, held}
-use Rattle.mem_slab.specs.History.{count, number, freeList, isFree, top, Promise}
-use Rattle.mem_slab.proofs.Memory.{both, refuted, Fit, fit-is, is-sound, next-link}
+use Rattle.mem_slab.specs.History.{count, number, freeList, top, Promise}
+use Rattle.mem_slab.proofs.Memory.{Fit, fit-is, is-sound, next-link}
 use Rattle.mem_slab.proofs.Outs.{alloc-cases, free-cases, outcome, out-changes}
-use Rattle.mem_slab.proofs.Chain.{number-ext}
+use Rattle.mem_slab.proofs.Along.{number-ext}
 use Rattle.mem_slab.proofs.Stack.{Good, first-is, next-free, popped, good-alloc, some-used, pushed, good-free, good-new, none-out}
 
 record Kept (z n : ℕ) (xs : List Event) (h l : List ℕ) : Type 0 where

@@ -2,7 +2,7 @@ pub mod Memory
 pub mod Answers
 pub mod New
 pub mod Outs
-pub mod Chain
+pub mod Along
 pub mod Stack
 pub mod Histories
 pub mod HandOver

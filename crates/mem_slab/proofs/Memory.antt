@@ -1,6 +1,6 @@
 -- A slab in memory: what its being fit says, and what a call leaves. Assumes nothing.
-use mathlib.Core.Path.{_≡_, refl, sym, _∙_}
-use mathlib.Core.Bool.{Bool, true, false, not, _&&_}
+use mathlib.Core.Path.{_≡_, refl, sym, ap, subst, _∙_}
+use mathlib.Core.Bool.{Bool, true, false, cond, not, _&&_}
 use mathlib.Core.List.{List, [], _∷_}
 use Prim.Native.Nat.{ℕ, _≤_, _<_}
 use native.Mathlib.Omega.{arith}
@@ -11,8 +11,7 @@ use lib.Seq.{length-take-le, getD-take}
 use borrow.Author.Tests.{lt-ltb, le-leb, ltb-true, leb-true, not-true, not-false}
 use Rattle.seq.proofs.Order.{clash}
 use Rattle.thread.specs.Code.{einval}
-use Rattle.store.specs.Store.{Reply, Did}
-use Rattle.store.proofs.Laws.{did-bad, did-no}
+use Rattle.store.specs.Store.{Reply, refuse, answer, reply, After, Did}
 use Rattle.mem_slab.specs.Slab.{Slab, sound, leads, free}
 use Rattle.mem_slab.specs.Post.{slab, place, fit, led, sees}
 
@@ -107,33 +106,44 @@ is-fit h l k =
     let s = is-sound h l (p .0) in
     record { sound = s; free = λ u. is-led h l s (p .1) u .0; named = λ u. is-led h l s (p .1) u .1 }
 
--- what is not fit is refused
+-- a test of what is fit comes first
 module _ (h l : List ℕ) where
-  -- by the answer of a test
+  -- by its answer
   pub tested : (b : Bool) → b ≡ fit h l → not b ≡ false → Fit h l
   tested b e k = is-fit h l (sym e ∙ not-false b k)
 
   pub tested-no : (b : Bool) → b ≡ fit h l → not b ≡ true → fit h l ≡ false
   tested-no b e k = sym e ∙ not-true b k
 
-  pub unfit : (f : Slab → Reply Slab) → fit h l ≡ false → Did place (led f) h l einval h l
-  unfit f k = go (place .formed h l) (leads (slab h l)) refl refl k
-    where
-      go : (b c : Bool) → place .formed h l ≡ b → leads (slab h l) ≡ c → (b && c) ≡ false → Did place (led f) h l einval h l
-      go false c x y z = did-bad place (led f) h l x
-      go true false x y z = did-no place (led f) h l x (rw y)
-      go true true x y z = clash z
+  module _ {A : Type 0} (x y : A) where
+    pub guarded : Fit h l → cond (place .formed h l) (cond (leads (slab h l)) x y) y ≡ x
+    guarded f = rw (sound-is h l (f .sound), leads-is h l (f .sound) (f .free, f .named))
 
-  pub unseen : (f : Slab → ℤ) → fit h l ≡ false → einval ≡ sees f h l
-  unseen f k = go (place .formed h l) (leads (slab h l)) refl refl k
-    where
-      go : (b c : Bool) → place .formed h l ≡ b → leads (slab h l) ≡ c → (b && c) ≡ false → einval ≡ sees f h l
-      go false c x y z = rw x
-      go true false x y z = rw (x, y)
-      go true true x y z = clash z
+    pub unguarded : fit h l ≡ false → cond (place .formed h l) (cond (leads (slab h l)) x y) y ≡ y
+    unguarded k = go (place .formed h l) (leads (slab h l)) k
+      where
+        go : (b c : Bool) → (b && c) ≡ false → cond b (cond c x y) y ≡ y
+        go false c z = refl
+        go true false z = refl
+        go true true z = clash z
+
+  -- so the reply and the number that is seen
+  pub reply-fit : (f : Slab → Reply Slab) → Fit h l → reply place (led f) h l ≡ f (slab h l)
+  reply-fit f = guarded (f (slab h l)) (refuse einval)
+
+  pub reply-unfit : (f : Slab → Reply Slab) → fit h l ≡ false → reply place (led f) h l ≡ refuse einval
+  reply-unfit f = unguarded (f (slab h l)) (refuse einval)
+
+  pub unfit : (f : Slab → Reply Slab) → fit h l ≡ false → Did place (led f) h l einval h l
+  unfit f k =
+      let e = reply-unfit f k in
+      record { code = sym (ap answer e); after = subst (λ y. After place y h l h l) (sym e) (refl, refl) }
 
   pub seen : (f : Slab → ℤ) → Fit h l → f (slab h l) ≡ sees f h l
-  seen f k = rw (sound-is h l (k .sound), leads-is h l (k .sound) (k .free, k .named))
+  seen f k = sym (guarded (f (slab h l)) einval k)
+
+  pub unseen : (f : Slab → ℤ) → fit h l ≡ false → einval ≡ sees f h l
+  unseen f k = sym (unguarded (f (slab h l)) einval k)
 
 -- a header shows its four words
 pub record Four (h : List ℕ) : Type 0 where

@@ -4,13 +4,13 @@ use mathlib.Core.List.{List, [], _∷_, _++_, append-assoc}
 use Prim.Native.Nat.{ℕ, zero, suc, _+_, _-_, _≤_, _<_}
 use native.Mathlib.Numerals.{add-one}
 use native.Mathlib.Omega.{arith}
-use lib.ListN.{length, getD, drop, set, length-append, length-drop}
+use lib.ListN.{length, getD, take, drop, set, length-append, length-drop}
 use lib.Seq.{drop-cons, set-at, take-at, drop-at}
 use borrow.Author.Tests.{lt-ltb, le-ltb, le-leb, lt-leb}
 use Rattle.thread.specs.Code.{ok, einval}
-use Rattle.store.specs.Store.{Becomes}
+use Rattle.store.specs.Store.{Becomes, Filled}
 use Rattle.store.proofs.Laws.{start-short, start-bad, start-made}
-use Rattle.mem_slab.specs.Slab.{upFrom, fresh}
+use Rattle.mem_slab.specs.Slab.{upFrom, newLinks, fresh}
 use Rattle.mem_slab.specs.Post.{place, Starts}
 use Rattle.mem_slab.proofs.Memory.{sound-is, Four, four}
 
@@ -36,9 +36,19 @@ module _ (i : ℕ) (l : List ℕ) (k : i < length l) where
   pub linked-more : set (linked i l) i (i + 2) ≡ linked (i + 1) l
   linked-more = writes-at (i + 2) ∙ up-more 2 i (i + 2) (drop (suc i) l) refl ∙ rw (add-one i)
 
-  -- and the last one's names the first
-  pub linked-all : set (linked i l) i 1 ≡ (upFrom 2 i ++ 1 ∷ []) ++ drop (suc i) l
-  linked-all = writes-at 1 ∙ sym (append-assoc (upFrom 2 i) (1 ∷ []) (drop (suc i) l))
+pub length-new : (n : ℕ) → 0 < n → length (newLinks n) ≡ n
+length-new n k = omega (arith, length-append (upFrom 2 (n - 1)) (1 ∷ []), length-up 2 (n - 1))
+
+-- and the last one's names the first
+pub linked-all : (n : ℕ) (l : List ℕ) → 0 < n → n ≤ length l → (i : ℕ) → i ≡ n - 1 → Filled (newLinks n) l (set (linked i l) i 1)
+linked-all n l b k i e =
+    let m : suc i ≡ n = omega arith in
+    rw (length-new n b, writes-at i l (omega arith) 1, m, e) (sym (append-assoc (upFrom 2 (n - 1)) (1 ∷ []) (drop n l)))
+
+-- the links come first in what was lent
+filled : (k l l' : List ℕ) (n : ℕ) → length k ≡ n → n ≤ length l → Filled k l l' → (length l' ≡ length l) × (take n l' ≡ k) × (drop n l' ≡ drop n l)
+filled k l l' n e m f =
+    rw (f, e) (omega (arith, length-append k (drop n l), length-drop n l), take-at k (drop n l) n e, drop-at k (drop n l) n e)
 
 module _ (z n : ℕ) (h l : List ℕ) where
   pub short : length h < 4 → Starts z n h l einval h l
@@ -54,23 +64,18 @@ module _ (z n : ℕ) (h l : List ℕ) where
     pub no-room : 0 < z → 0 < n → length l < n → Starts z n h l einval h l
     no-room a b e = start-bad w (rw (lt-ltb 0 z a, lt-ltb 0 n b, lt-leb n (length l) e))
 
-    pub starts : 0 < z → 0 < n → n ≤ length l → (i : ℕ) → i ≡ n - 1 → Starts z n h l ok (set (set (set (set h 0 n) 1 z) 2 0) 3 0) (set (linked i l) i 1)
-    starts a b c i e =
-        let m : suc i ≡ n = omega arith in
-        rw (linked-all i l (omega arith), m)
-        (start-made w (rw (lt-ltb 0 z a, lt-ltb 0 n b) (le-leb n (length l) c))
-        (go (four h w) (upFrom 2 i ++ 1 ∷ []) (omega (arith, length-append (upFrom 2 i) (1 ∷ []), length-up 2 i)) (rw e)))
+    pub starts : 0 < z → 0 < n → n ≤ length l → (l' : List ℕ) → Filled (newLinks n) l l' → Starts z n h l ok (set (set (set (set h 0 n) 1 z) 2 0) 3 0) l'
+    starts a b c l' f =
+        start-made w (rw (lt-ltb 0 z a, lt-ltb 0 n b) (le-leb n (length l) c)) (go (four h w) (filled (newLinks n) l l' n (length-new n b) c f))
       where
-        go : Four h → (k : List ℕ) → length k ≡ n → k ≡ fresh z n .link
-            → Becomes place (fresh z n) h l (set (set (set (set h 0 n) 1 z) 2 0) 3 0) (k ++ drop n l)
-        go f k y x =
-            let m : length (k ++ drop n l) ≡ length l = omega (arith, length-append k (drop n l), length-drop n l) in
-            rw (f .is)
+        go : Four h → (length l' ≡ length l) × (take n l' ≡ newLinks n) × (drop n l' ≡ drop n l) → Becomes place (fresh z n) h l (set (set (set (set h 0 n) 1 z) 2 0) 3 0) l'
+        go g q =
+            rw (g .is)
             (record {
-              formed = sound-is (n ∷ z ∷ 0 ∷ 0 ∷ f .rest) (k ++ drop n l)
-                  (record { words = omega arith; blocks = b; sized = a; few = omega arith; inside = b; room = omega arith });
-              object = rw (take-at k (drop n l) n y, x);
+              formed = sound-is (n ∷ z ∷ 0 ∷ 0 ∷ g .rest) l'
+                  (record { words = omega arith; blocks = b; sized = a; few = omega arith; inside = b; room = omega (arith, q .0) });
+              object = rw (q .1);
               beside = refl;
-              rest = drop-at k (drop n l) n y;
-              long = (refl, m);
+              rest = q .2;
+              long = (refl, q .0);
             })

@@ -8,20 +8,17 @@ use lib.Dec.{ltb, eqb}
 use lib.IntN.{ℤ, pos, negsuc}
 use lib.ListN.{length, getD, set, take}
 use lib.Seq.{getD-set-same, getD-set-other, length-take-le}
-use borrow.Author.Tests.{lt-ltb, le-ltb, ltb-true, ltb-false, eq-eqb, ne-eqb, eqb-true, eqb-false}
+use borrow.Author.Tests.{lt-ltb, ltb-true, ltb-false, ne-eqb, eqb-true, eqb-false}
 use Rattle.seq.proofs.Order.{clash}
 use Rattle.thread.specs.Code.{ok, enomem, einval}
 use Rattle.store.specs.Store.{Reply, refuse, accept, answer, Place, reply, After, Becomes, Did}
-use Rattle.mem_slab.specs.Slab.{Slab, isOut, leads, alloc, free, given, returned}
+use Rattle.mem_slab.specs.Slab.{Slab, isOut, alloc, free, given, returned}
 use Rattle.mem_slab.specs.Post.{slab, place, fit, led}
-use Rattle.mem_slab.specs.Blocks.{Call, allocs, frees, meant, Calls, Event, Run, start, then, changed, held, out, Given, Returned, Outcome, NoTwo}
-use Rattle.mem_slab.proofs.Memory.{both, refuted, Sound, Fit, sound-is, leads-is, is-fit, next-link}
+use Rattle.mem_slab.specs.Blocks.{Call, allocs, frees, Calls, Event, Run, start, then, changed, held, out, Given, Returned, Outcome, NoTwo}
+use Rattle.mem_slab.proofs.Memory.{both, refuted, reply-fit, reply-unfit, Fit, is-fit, next-link}
 
 -- a link is written
 module _ (n b v : ℕ) (k : List ℕ) where
-  abbrev outs : ℕ → List ℕ → ℕ → Bool
-  outs m l i = ltb i m && eqb (getD l i 0) 0
-
   pub out-here : b < n → n ≤ length k → (ltb b n && eqb (getD (set k b v) b 0) 0) ≡ eqb v 0
   out-here p q = rw (lt-ltb b n p, getD-set-same k b v 0 (omega arith))
 
@@ -32,18 +29,6 @@ module _ (n b v : ℕ) (k : List ℕ) where
 pub ended : {S : Type 0} (P : Place S) (f : S → Reply S) (h b : List ℕ) {r : ℤ} {h' b' : List ℕ} (y : Reply S) → reply P f h b ≡ y → Did P f h b r h' b'
     → (r ≡ answer y) × After P y h b h' b'
 ended P f h b {r} {h'} {b'} y e d = (d .code ∙ ap answer e, subst (λ x. After P x h b h' b') e (d .after))
-
-module _ (h l : List ℕ) (f : Slab → Reply Slab) where
-  pub reply-fit : Fit h l → reply place (led f) h l ≡ f (slab h l)
-  reply-fit k = rw (sound-is h l (k .sound), leads-is h l (k .sound) (k .free, k .named))
-
-  pub reply-unfit : fit h l ≡ false → reply place (led f) h l ≡ refuse einval
-  reply-unfit k = go (place .formed h l) (leads (slab h l)) refl refl k
-    where
-      go : (b c : Bool) → place .formed h l ≡ b → leads (slab h l) ≡ c → (b && c) ≡ false → reply place (led f) h l ≡ refuse einval
-      go false c x y z = rw x
-      go true false x y z = rw (x, y)
-      go true true x y z = clash z
 
 -- by the reply to alloc
 pub alloc-cases : (h l : List ℕ) (P : Reply Slab → Type 0) → (fit h l ≡ false → P (refuse einval))

@@ -1,20 +1,20 @@
 -- The free blocks of a slab are a stack: what alloc and free keep. Assumes nothing.
 use mathlib.Core.Path.{_≡_, refl, sym, ap, _∙_}
 use mathlib.Core.Bool.{Bool, true, false, cond, not, _&&_}
-use mathlib.Core.List.{List, [], _∷_, _++_}
+use mathlib.Core.List.{List, [], _∷_}
 use Prim.Native.Nat.{ℕ, zero, suc, _+_, _-_, _≤_, _<_}
 use native.Mathlib.Omega.{arith}
 use lib.Dec.{ltb, eqb}
-use lib.ListN.{length, getD, set, length-set, length-append, List·getD-append, List·getD-eq-default}
+use lib.ListN.{length, getD, set, length-set, List·getD-append, List·getD-eq-default}
 use lib.Seq.{getD-set-same, getD-set-other, getD-at}
-use borrow.Author.Tests.{lt-ltb, le-ltb, ltb-true, ltb-false, eq-eqb, ne-eqb, eqb-true, eqb-false}
+use borrow.Author.Tests.{lt-ltb, ltb-true, ltb-false, eq-eqb, ne-eqb, eqb-true, eqb-false}
 use Rattle.seq.proofs.Order.{clash}
-use Rattle.mem_slab.specs.Slab.{Slab, isOut, given, returned, upFrom, fresh}
+use Rattle.mem_slab.specs.Slab.{Slab, isOut, given, returned, upFrom, newLinks, fresh}
 use Rattle.mem_slab.specs.History.{count, number, along, freeList, isFree}
 use Rattle.mem_slab.proofs.Memory.{both}
-use Rattle.mem_slab.proofs.New.{length-up}
+use Rattle.mem_slab.proofs.New.{length-up, length-new}
 use Rattle.mem_slab.proofs.Outs.{out-here, out-other}
-use Rattle.mem_slab.proofs.Chain.{count-first, count-other, along-same, along-up, number-more, number-none, number-some, count-up, count-above}
+use Rattle.mem_slab.proofs.Along.{count-first, count-other, along-same, along-up, number-more, number-none, number-some, count-up, count-above}
 
 pub record Good (s : Slab) : Type 0 where
   pub few : s .used ≤ s .blocks
@@ -144,7 +144,7 @@ getD-up k (suc n) (suc j) h = omega (arith, getD-up (suc k) n j (omega arith))
 
 module _ (z n : ℕ) (some-blocks : 0 < n) where
   abbrev links : List ℕ
-  links = upFrom 2 (n - 1) ++ 1 ∷ []
+  links = newLinks n
 
   link-up : (j : ℕ) → suc j < n → getD links j 0 ≡ suc (suc j)
   link-up j h =
@@ -152,9 +152,6 @@ module _ (z n : ℕ) (some-blocks : 0 < n) where
 
   link-last : getD links (n - 1) 0 ≡ 1
   link-last = getD-at (upFrom 2 (n - 1)) 1 [] 0 (n - 1) (length-up 2 (n - 1))
-
-  length-links : length links ≡ n
-  length-links = omega (arith, length-append (upFrom 2 (n - 1)) (1 ∷ []), length-up 2 (n - 1))
 
   link-new : (j : ℕ) → j < n → (0 < getD links j 0) × (getD links j 0 ≤ n)
   link-new j h = go (ltb (suc j) n) refl
@@ -170,7 +167,7 @@ module _ (z n : ℕ) (some-blocks : 0 < n) where
     where
       go : (c : Bool) → ltb b n ≡ c → getD links b 0 ≤ n
       go true t = link-new b (ltb-true b n t) .1
-      go false t = rw (List·getD-eq-default links 0 {n = b} (omega (arith, length-links, ltb-false b n t))) (omega arith)
+      go false t = rw (List·getD-eq-default links 0 {n = b} (omega (arith, length-new n some-blocks, ltb-false b n t))) (omega arith)
 
   pub none-out : (b : ℕ) → isOut (fresh z n) b ≡ false
   none-out b = go (ltb b n) refl
@@ -192,7 +189,7 @@ module _ (z n : ℕ) (some-blocks : 0 < n) where
       record {
         few = omega arith;
         inside = some-blocks;
-        links = omega (arith, length-links);
+        links = omega (arith, length-new n some-blocks);
         named = named-new;
         once = λ b. rw y (ap (count b) (along-up links n 0 n (omega arith) link-up) ∙ once-new b);
         used = sym (number-none (isOut (fresh z n)) n none-out);

@@ -1,5 +1,5 @@
 -- Our contracts imply those of Gale's mem_slab.rs. Assumes nothing.
-use mathlib.Core.Path.{_≡_, refl, sym, ap, subst, _∙_}
+use mathlib.Core.Path.{_≡_, refl, sym, ap, _∙_}
 use mathlib.Core.Bool.{Bool, true, false, cond, _&&_, and-false}
 use mathlib.Core.Logic.{_⊎_, inl, inr}
 use mathlib.Core.List.{List}
@@ -11,17 +11,17 @@ use lib.IntN.{ℤ, pos, negsuc}
 use lib.Signed.{mag}
 use lib.ListN.{length, getD, take, set}
 use lib.Seq.{set-set, set-getD, getD-set-same, length-take-le}
-use borrow.Author.Tests.{lt-ltb, le-ltb, le-leb, lt-leb, ltb-true, ltb-false, eq-eqb, ne-eqb, eqb-true}
+use borrow.Author.Tests.{lt-ltb, le-ltb, le-leb, lt-leb, ltb-false, eq-eqb, ne-eqb}
 use Rattle.seq.proofs.Order.{clash}
-use Rattle.thread.specs.Code.{ok, enomem, einval}
+use Rattle.thread.specs.Code.{ok, einval}
 use Rattle.store.specs.Store.{Reply, refuse, accept, answer, reply, After, Becomes}
 use Rattle.store.proofs.Laws.{became, answers}
-use Rattle.mem_slab.specs.Slab.{Slab, isOut, leads, allocs, frees, alloc, free, given, returned, fresh}
+use Rattle.mem_slab.specs.Slab.{Slab, leads, frees, alloc, free, given}
 use Rattle.mem_slab.specs.Post.{slab, place, fit, led, Allocs, Frees, sees, isFull, isEmpty, Starts, AllocDecided, FreeDecided}
 use Rattle.mem_slab.specs.Blocks.{Call, meant, Calls, out}
 use Rattle.mem_slab.specs.Upstream.{Inv, Init, Keeps, Alloc, Free, NumUsedGet, NumFreeGet, NumBlocksGet, BlockSizeGet, IsFull, IsEmpty, AllocDecide, FreeDecide, Inductive, AllocFree, AllocFreeMemory, FreeAlloc, Conserves, FullRejects, AllFreeRejects}
-use Rattle.mem_slab.proofs.Memory.{both, Fit, fit-is, is-fit, is-sound, next-link, unseen, seen}
-use Rattle.mem_slab.proofs.Outs.{ended, reply-unfit, alloc-cases, free-cases}
+use Rattle.mem_slab.proofs.Memory.{both, Fit, fit-is, is-fit, is-sound, next-link, reply-unfit, unseen, seen}
+use Rattle.mem_slab.proofs.Outs.{ended, alloc-cases, free-cases}
 use Rattle.mem_slab.proofs.Answers.{full, not-full, empty, not-empty}
 use Rattle.mem_slab.proofs.HandOver.{same-header, same-links, refused-ok}
 

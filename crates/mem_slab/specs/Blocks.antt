@@ -1,12 +1,11 @@
 -- What a caller may believe of blocks, in any memory: sound, malformed, or made by nobody.
 use mathlib.Core.Path.{_≡_}
-use mathlib.Core.Bool.{Bool, true, false, cond, _&&_}
+use mathlib.Core.Bool.{Bool, true, false, cond}
 use mathlib.Core.List.{List, [], _∷_}
 use Prim.Native.Nat.{ℕ, _<_}
 use lib.Dec.{eqb}
 use lib.IntN.{ℤ, pos, negsuc}
 use lib.ListN.{getD}
-use Rattle.thread.specs.Code.{ok}
 use Rattle.store.specs.Store.{Reply, Did}
 use Rattle.mem_slab.specs.Slab.{Slab, isOut, alloc, free}
 use Rattle.mem_slab.specs.Post.{slab, place, led}
@@ -65,7 +64,7 @@ pub record Returned (b : ℕ) (h l h' l' : List ℕ) : Type 0 where
   pub after : out h' l' b ≡ false
   pub others : OthersStay b h l h' l'
 
--- all that one call can do, and what callers hold of it
+-- all that a call can do to blocks
 abbrev pub Outcome : Call → ℤ → List ℕ → List ℕ → List ℕ → List ℕ → Type 0
 Outcome allocs (pos b) h l h' l' = Given b h l h' l'
 Outcome (frees b) (pos n) h l h' l' = (n ≡ 0) × Returned b h l h' l'

@@ -76,6 +76,10 @@ abbrev pub upFrom : ℕ → ℕ → List ℕ
 upFrom k zero = []
 upFrom k (suc n) = k ∷ upFrom (suc k) n
 
+-- the links of n blocks: each names the one after it, and the last names the first
+abbrev pub newLinks : ℕ → List ℕ
+newLinks n = upFrom 2 (n - 1) ++ 1 ∷ []
+
 -- a new slab: no block is out, and they are given in the order of their numbers
 abbrev pub fresh : ℕ → ℕ → Slab
-fresh size blocks = record { blocks = blocks; size = size; used = 0; next = 0; link = upFrom 2 (blocks - 1) ++ 1 ∷ [] }
+fresh size blocks = record { blocks = blocks; size = size; used = 0; next = 0; link = newLinks blocks }

@@ -4,11 +4,13 @@ use thread::EINVAL;
 use thread::ENOMEM;
 use thread::OK;
 ghost use mathlib.Core.Path.{_≡_};
-ghost use mathlib.Core.Bool.{Bool};
-ghost use Prim.Native.Nat.{ℕ, _-_};
+ghost use mathlib.Core.Bool.{_&&_};
+ghost use Prim.Native.Nat.{_-_, _≤_, _<_};
 ghost use lib.IntN.{pos};
-ghost use Rattle.mem_slab.specs.Slab.{Slab};
-ghost use Rattle.mem_slab.specs.Post.{fit, Allocs, Frees, sees, isFull, isEmpty, Starts, AllocDecided, FreeDecided};
+ghost use lib.ListN.{length, getD, set};
+ghost use Rattle.store.specs.Store.{Filled};
+ghost use Rattle.mem_slab.specs.Slab.{Slab, isOut, newLinks};
+ghost use Rattle.mem_slab.specs.Post.{slab, fit, Allocs, Frees, sees, isFull, isEmpty, Starts, AllocDecided, FreeDecided};
 
 // What alloc_decide answers one that is to wait.
 pub const WAITS: i32 = 1;
@@ -104,13 +106,21 @@ pub fn init(h: &mut [u32], l: &mut [u32], block_size: u32, num_blocks: u32) -> i
     h[1] = block_size;
     h[2] = 0;
     h[3] = 0;
+    chain(l, num_blocks);
+    OK
+}
+
+// Each block names the one after it, and the last names the first.
+fn chain(l: &mut [u32], num_blocks: u32)
+    requires { ⌜ (0 < «num_blocks») × («num_blocks» ≤ length (now l)) ⌝ }
+    ensures { λ _. ⌜ Filled (newLinks «num_blocks») (now (l .entry)) (now (l .exit)) ⌝ }
+{
     let mut i: u32 = 0;
     while i < num_blocks - 1 {
         l[seq::wide(i)] = i + 2;
         i += 1;
     }
     l[seq::wide(i)] = 1;
-    OK
 }
 
 // The block; ENOMEM: all are out.
@@ -125,35 +135,50 @@ pub fn alloc(h: &mut [u32], l: &mut [u32]) -> i64
         return -12;
     }
     let block = h[3];
-    let at = seq::wide(block);
     h[2] = used + 1;
-    h[3] = l[at] - 1;
-    l[at] = 0;
+    h[3] = unlink(l, block) - 1;
     seq::signed(block)
+}
+
+// The block's link; the block is out then.
+fn unlink(l: &mut [u32], block: u32) -> u32
+    requires { ⌜ block < length (now l) ⌝ }
+    ensures { λ r. ⌜ (r ≡ getD (now (l .entry)) block 0) × (now (l .exit) ≡ set (now (l .entry)) block 0) ⌝ }
+{
+    let at = block as usize;
+    let link = l[at];
+    l[at] = 0;
+    link
 }
 
 // OK: the block was out and is not; it is given next.
 pub fn free(h: &mut [u32], l: &mut [u32], block: u32) -> i32
     ensures { λ r. ⌜ Frees block (now (h .entry)) (now (l .entry)) r (now (h .exit)) (now (l .exit)) ⌝ }
 {
-    if !formed(h, l) {
-        return EINVAL;
-    }
-    if h[0] <= block {
-        return EINVAL;
-    }
-    let at = seq::wide(block);
-    if l[at] != 0 {
+    if !is_out(h, l, block) {
         return EINVAL;
     }
     let used = h[2];
     if used == 0 {
         return EINVAL;
     }
-    l[at] = h[3] + 1;
+    l[block as usize] = h[3] + 1;
     h[2] = used - 1;
     h[3] = block;
     OK
+}
+
+// Whether the memory is as it should be and the block is out.
+fn is_out(h: &[u32], l: &[u32], block: u32) -> bool
+    ensures { λ r. ⌜ r ≡ (fit (now (h .entry)) (now (l .entry)) && isOut (slab (now (h .entry)) (now (l .entry))) block) ⌝ }
+{
+    if !formed(h, l) {
+        return false;
+    }
+    if h[0] <= block {
+        return false;
+    }
+    l[block as usize] == 0
 }
 
 pub fn num_used_get(h: &[u32], l: &[u32]) -> i64

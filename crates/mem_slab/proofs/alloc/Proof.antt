@@ -1,13 +1,10 @@
 -- One law for each answer. Assumes nothing.
 use native.Mathlib.Omega.{arith}
-use mathlib.Core.Path.{ap}
-use Prim.Native.Nat.{ℕ}
-use lib.ListN.{getD}
-use lib.Seq.{lt-length-set}
 use Rattle.seq.proofs.Integers.{answered64}
 use Rattle.mem_slab.specs.Slab as slab
 use Rattle.mem_slab.proofs.Memory.{tested, tested-no, unfit}
 use Rattle.mem_slab.proofs.Answers.{all-out, gives}
+use lib.Seq.{lt-length-set}
 use borrow.Author.Needs.{needs}
 use Rattle.mem_slab.proofs.alloc.Statement.{statement}
 use Rattle.mem_slab.proofs.alloc.Tie as tie
@@ -42,32 +39,20 @@ returns-2 c = let a = c .before .before .before .before .before .before .before 
 slice-read-block : tie.Need-slice-read-block
 slice-read-block c = let a = c .before .before .before .before .before .before .before .before .before .before .args in let f = tested (a .h .now) (a .l .now) _ (c .before .before .before .before .before .formed .ensures) (c .before .before .before .before .if1 .left) in omega (arith, f .sound .words)
 
-wide-requires : tie.Need-wide-requires
-wide-requires c κs = search needs
-
 add-h : tie.Need-add-h
-add-h c = let a = c .before .before .before .before .before .before .before .before .before .before .before .args in let f = tested (a .h .now) (a .l .now) _ (c .before .before .before .before .before .before .formed .ensures) (c .before .before .before .before .before .if1 .left) in omega (arith, f .sound .few, c .before .slice-known5 .given 0)
+add-h c = let a = c .before .before .before .before .before .before .before .before .before .before .args in let f = tested (a .h .now) (a .l .now) _ (c .before .before .before .before .before .formed .ensures) (c .before .before .before .before .if1 .left) in omega (arith, f .sound .few, c .slice-known5 .given 0)
 
 slice-write-h : tie.Need-slice-write-h
-slice-write-h c = let a = c .before .before .before .before .before .before .before .before .before .before .before .args in let f = tested (a .h .now) (a .l .now) _ (c .before .before .before .before .before .before .formed .ensures) (c .before .before .before .before .before .if1 .left) in omega (arith, f .sound .words)
+slice-write-h c = let a = c .before .before .before .before .before .before .before .before .before .before .args in let f = tested (a .h .now) (a .l .now) _ (c .before .before .before .before .before .formed .ensures) (c .before .before .before .before .if1 .left) in omega (arith, f .sound .words)
 
-mul-h : tie.Need-mul-h
-mul-h c = omega (arith, c .wide .ensures, c .before .slice-known5 .given 3)
-
-slice-read-h : tie.Need-slice-read-h
-slice-read-h c = let a = c .before .before .before .before .before .before .before .before .before .before .before .before .args in let f = tested (a .h .now) (a .l .now) _ (c .before .before .before .before .before .before .before .formed .ensures) (c .before .before .before .before .before .before .if1 .left) in omega (arith, c .before .wide .ensures, f .sound .inside, f .sound .room)
+unlink-requires : tie.Need-unlink-requires
+unlink-requires c κs = let a = c .before .before .before .before .before .before .before .before .before .before .before .args in let f = tested (a .h .now) (a .l .now) _ (c .before .before .before .before .before .before .formed .ensures) (c .before .before .before .before .before .if1 .left) in omega (arith, f .sound .inside, f .sound .room)
 
 sub-h : tie.Need-sub-h
-sub-h c = let a = c .before .before .before .before .before .before .before .before .before .before .before .before .args in let f = tested (a .h .now) (a .l .now) _ (c .before .before .before .before .before .before .before .formed .ensures) (c .before .before .before .before .before .before .if1 .left) in omega (arith, ap (λ (i : ℕ). getD (a .l .now) i 0) (c .before .wide .ensures), f .free (omega (arith, f .sound .few, c .before .before .before .if2 .left)))
+sub-h c = let a = c .before .before .before .before .before .before .before .before .before .before .before .before .before .before .args in let f = tested (a .h .now) (a .l .now) _ (c .before .before .before .before .before .before .before .before .before .formed .ensures) (c .before .before .before .before .before .before .before .before .if1 .left) in omega (arith, c .before .before .unlink .ensures .0, f .free (omega (arith, f .sound .few, c .before .before .before .before .before .if2 .left)))
 
 slice-write-h-2 : tie.Need-slice-write-h-2
-slice-write-h-2 c = let a = c .before .before .before .before .before .before .before .before .before .before .before .before .args in let f = tested (a .h .now) (a .l .now) _ (c .before .before .before .before .before .before .before .formed .ensures) (c .before .before .before .before .before .before .if1 .left) in lt-length-set (a .h .now) 2 _ (omega (arith, f .sound .words))
-
-mul-l : tie.Need-mul-l
-mul-l c = omega (arith, c .before .wide .ensures, c .before .before .slice-known5 .given 3)
-
-slice-write-l : tie.Need-slice-write-l
-slice-write-l c = let a = c .before .before .before .before .before .before .before .before .before .before .before .before .args in let f = tested (a .h .now) (a .l .now) _ (c .before .before .before .before .before .before .before .formed .ensures) (c .before .before .before .before .before .before .if1 .left) in omega (arith, c .before .wide .ensures, f .sound .inside, f .sound .room)
+slice-write-h-2 c = let a = c .before .before .before .before .before .before .before .before .before .before .before .before .before .before .args in let f = tested (a .h .now) (a .l .now) _ (c .before .before .before .before .before .before .before .before .before .formed .ensures) (c .before .before .before .before .before .before .before .before .if1 .left) in lt-length-set (a .h .now) 2 _ (omega (arith, f .sound .words))
 
 signed-requires : tie.Need-signed-requires
 signed-requires c κs = search needs
@@ -79,7 +64,7 @@ same-length-6 : tie.Need-same-length-6
 same-length-6 c = search needs
 
 returns-3 : tie.Need-returns-3
-returns-3 c = let a = c .before .before .before .before .before .before .before .before .before .before .before .before .before .args in let f = tested (a .h .now) (a .l .now) _ (c .before .before .before .before .before .before .before .before .formed .ensures) (c .before .before .before .before .before .before .before .if1 .left) in rw (answered64 {z = c .signed .result} (c .signed .ok), c .signed .ensures, c .before .before .wide .ensures) (gives (a .h .now) (a .l .now) f (c .before .before .before .before .if2 .left))
+returns-3 c = let a = c .before .before .before .before .before .before .before .before .before .before .before .before .before .before .before .args in let f = tested (a .h .now) (a .l .now) _ (c .before .before .before .before .before .before .before .before .before .before .formed .ensures) (c .before .before .before .before .before .before .before .before .before .if1 .left) in rw (answered64 {z = c .signed .result} (c .signed .ok), c .signed .ensures, c .before .before .before .unlink .ensures .0, c .before .before .before .unlink .ensures .1) (gives (a .h .now) (a .l .now) f (c .before .before .before .before .before .before .if2 .left))
 
 pub alloc-spec : {M : Type 1} → statement M
 alloc-spec =
@@ -95,15 +80,11 @@ alloc-spec =
     same-length-4
     returns-2
     slice-read-block
-    wide-requires
     add-h
     slice-write-h
-    mul-h
-    slice-read-h
+    unlink-requires
     sub-h
     slice-write-h-2
-    mul-l
-    slice-write-l
     signed-requires
     same-length-5
     same-length-6
