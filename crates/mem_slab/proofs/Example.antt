@@ -7,7 +7,7 @@ use Rattle.thread.specs.Code.{ok, enomem, einval}
 use Rattle.store.specs.Store.{Reply, refuse, accept, answer, reply}
 use Rattle.mem_slab.specs.Slab.{Slab, alloc, free, fresh}
 use Rattle.mem_slab.specs.Post.{slab, place, fit, led, Starts}
-use Rattle.mem_slab.specs.Blocks.{Call, allocs, frees, meant, Calls, Run, start, then, held}
+use Rattle.mem_slab.specs.Blocks.{Call, allocCall, freeCall, meant, Calls, Run, start, then, held}
 use Rattle.mem_slab.specs.History.{freeList}
 use Rattle.mem_slab.specs.HandOver.{Ask, allocates, releases, after}
 use Rattle.mem_slab.proofs.New.{starts}
@@ -28,7 +28,7 @@ left (k ∷ ks) s = left ks (leaves s (led (meant k) s))
 
 -- three blocks: all go out; one comes back, twice is once too often; the last that came back goes out first
 abbrev calls : List Call
-calls = allocs ∷ allocs ∷ allocs ∷ allocs ∷ frees 1 ∷ frees 1 ∷ allocs ∷ frees 3 ∷ frees 0 ∷ frees 2 ∷ []
+calls = allocCall ∷ allocCall ∷ allocCall ∷ allocCall ∷ freeCall 1 ∷ freeCall 1 ∷ allocCall ∷ freeCall 3 ∷ freeCall 0 ∷ freeCall 2 ∷ []
 
 pub codes-are : codes calls (fresh 16 3) ≡ pos 0 ∷ pos 1 ∷ pos 2 ∷ enomem ∷ ok ∷ einval ∷ pos 1 ∷ einval ∷ ok ∷ ok ∷ []
 codes-are = refl
@@ -43,16 +43,16 @@ free-are = refl
 pub inited : Starts 16 2 (9 ∷ 9 ∷ 9 ∷ 9 ∷ 9 ∷ []) (9 ∷ 9 ∷ 9 ∷ []) ok (2 ∷ 16 ∷ 0 ∷ 0 ∷ 9 ∷ []) (2 ∷ 1 ∷ 9 ∷ [])
 inited = starts 16 2 (9 ∷ 9 ∷ 9 ∷ 9 ∷ 9 ∷ []) (9 ∷ 9 ∷ 9 ∷ []) (omega arith) (omega arith) (omega arith) (omega arith) (2 ∷ 1 ∷ 9 ∷ []) refl
 
-pub gave : Calls allocs (2 ∷ 16 ∷ 0 ∷ 0 ∷ 9 ∷ []) (2 ∷ 1 ∷ 9 ∷ []) (pos 0) (2 ∷ 16 ∷ 1 ∷ 1 ∷ 9 ∷ []) (0 ∷ 1 ∷ 9 ∷ [])
+pub gave : Calls allocCall (2 ∷ 16 ∷ 0 ∷ 0 ∷ 9 ∷ []) (2 ∷ 1 ∷ 9 ∷ []) (pos 0) (2 ∷ 16 ∷ 1 ∷ 1 ∷ 9 ∷ []) (0 ∷ 1 ∷ 9 ∷ [])
 gave = record { code = refl; after = record { formed = refl; object = refl; beside = refl; rest = refl; long = (refl, refl) } }
 
-pub took : Calls (frees 0) (2 ∷ 16 ∷ 1 ∷ 1 ∷ 9 ∷ []) (0 ∷ 1 ∷ 9 ∷ []) ok (2 ∷ 16 ∷ 0 ∷ 0 ∷ 9 ∷ []) (2 ∷ 1 ∷ 9 ∷ [])
+pub took : Calls (freeCall 0) (2 ∷ 16 ∷ 1 ∷ 1 ∷ 9 ∷ []) (0 ∷ 1 ∷ 9 ∷ []) ok (2 ∷ 16 ∷ 0 ∷ 0 ∷ 9 ∷ []) (2 ∷ 1 ∷ 9 ∷ [])
 took = record { code = refl; after = record { formed = refl; object = refl; beside = refl; rest = refl; long = (refl, refl) } }
 
-pub ran : Run (2 ∷ 16 ∷ 0 ∷ 0 ∷ 9 ∷ []) (2 ∷ 1 ∷ 9 ∷ []) (record { call = frees 0; answer = ok } ∷ record { call = allocs; answer = pos 0 } ∷ []) (2 ∷ 16 ∷ 0 ∷ 0 ∷ 9 ∷ []) (2 ∷ 1 ∷ 9 ∷ [])
-ran = then (frees 0) ok (then allocs (pos 0) start gave) took
+pub ran : Run (2 ∷ 16 ∷ 0 ∷ 0 ∷ 9 ∷ []) (2 ∷ 1 ∷ 9 ∷ []) (record { call = freeCall 0; answer = ok } ∷ record { call = allocCall; answer = pos 0 } ∷ []) (2 ∷ 16 ∷ 0 ∷ 0 ∷ 9 ∷ []) (2 ∷ 1 ∷ 9 ∷ [])
+ran = then (freeCall 0) ok (then allocCall (pos 0) start gave) took
 
-pub held-now : (held (record { call = allocs; answer = pos 0 } ∷ []) 0 ≡ true) × (held (record { call = frees 0; answer = ok } ∷ record { call = allocs; answer = pos 0 } ∷ []) 0 ≡ false)
+pub held-now : (held (record { call = allocCall; answer = pos 0 } ∷ []) 0 ≡ true) × (held (record { call = freeCall 0; answer = ok } ∷ record { call = allocCall; answer = pos 0 } ∷ []) 0 ≡ false)
 held-now = (refl, refl)
 
 -- links that nobody made: block 0 names itself. It goes out once; then the slab is malformed, and all is refused

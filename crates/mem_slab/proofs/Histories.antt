@@ -12,8 +12,8 @@ use Rattle.thread.specs.Code.{ok, einval}
 use Rattle.store.specs.Store.{answer, Becomes, After}
 use Rattle.mem_slab.specs.Slab.{Slab, isOut}
 use Rattle.mem_slab.specs.Post.{slab, place, fit, Starts}
-use Rattle.mem_slab.specs.Blocks.{Call, allocs, frees, Calls, Event, Run, start, then, changed, held}
-use Rattle.mem_slab.specs.History.{count, number, freeList, top, Promise}
+use Rattle.mem_slab.specs.Blocks.{Call, allocCall, freeCall, Calls, Event, Run, start, then, changed, held}
+use Rattle.mem_slab.specs.History.{count, number, freeList, top, Promise, Always}
 use Rattle.mem_slab.proofs.Memory.{Fit, fit-is, is-sound, next-link}
 use Rattle.mem_slab.proofs.Outs.{alloc-cases, free-cases, outcome, out-changes}
 use Rattle.mem_slab.proofs.Along.{number-ext}
@@ -62,46 +62,46 @@ module _ (z n : ℕ) (xs : List Event) (h l : List ℕ) (k : Kept z n xs h l) wh
         }
 
     record Popped : Type 0 where
-      next : Next allocs
+      next : Next allocCall
       code : r ≡ top (freeList (slab h l))
       left : freeList (slab h' l') ≡ drop 1 (freeList (slab h l))
 
-    pops : Calls allocs h l r h' l' → Popped
+    pops : Calls allocCall h l r h' l' → Popped
     pops d =
         alloc-cases h l (λ y. (r ≡ answer y) × After place y h l h' l' → Popped) (λ e. unfit-not e)
         (λ f u a.
         let e : getD h 0 0 - getD h 2 0 ≡ 0 = omega arith in
-        record { next = stays allocs d (a .1); code = a .0 ∙ rw e; left = rw (a .1 .0, a .1 .1, e) })
+        record { next = stays allocCall d (a .1); code = a .0 ∙ rw e; left = rw (a .1 .0, a .1 .1, e) })
         (λ f u a.
         let t = first-is (getD h 0 0) (getD h 1 0) (getD h 2 0) (getD h 3 0) (slab h l .link) u in
         record {
-          next = becomes allocs d (a .1) (good-alloc (getD h 0 0) (getD h 1 0) (getD h 2 0) (getD h 3 0) (slab h l .link) (k .good) u) refl refl;
+          next = becomes allocCall d (a .1) (good-alloc (getD h 0 0) (getD h 1 0) (getD h 2 0) (getD h 3 0) (slab h l .link) (k .good) u) refl refl;
           code = a .0 ∙ sym (ap top t);
           left = ap freeList (a .1 .object) ∙ popped (getD h 0 0) (getD h 1 0) (getD h 2 0) (getD h 3 0) (slab h l .link) (k .good) u ∙ sym (ap (drop 1) t);
         })
         (d .code, d .after)
 
     record Pushed (b : ℕ) : Type 0 where
-      next : Next (frees b)
+      next : Next (freeCall b)
       done : isOut (slab h l) b ≡ true → (r ≡ ok) × (freeList (slab h' l') ≡ b ∷ freeList (slab h l))
       refused : isOut (slab h l) b ≡ false → r ≡ einval
 
-    pushes : (b : ℕ) → Calls (frees b) h l r h' l' → Pushed b
+    pushes : (b : ℕ) → Calls (freeCall b) h l r h' l' → Pushed b
     pushes b d =
         free-cases b h l (λ y. (r ≡ answer y) × After place y h l h' l' → Pushed b) (λ e. unfit-not e)
-        (λ f o a. record { next = stays (frees b) d (a .1); done = λ q. clash (sym q ∙ o); refused = λ q. a .0 })
+        (λ f o a. record { next = stays (freeCall b) d (a .1); done = λ q. clash (sym q ∙ o); refused = λ q. a .0 })
         (λ f o e a. absurd (omega (arith, some-used (getD h 0 0) (getD h 1 0) (getD h 2 0) (getD h 3 0) (slab h l .link) (k .good) b o)))
         (λ f o e a.
         record {
-          next = becomes (frees b) d (a .1) (good-free (getD h 0 0) (getD h 1 0) (getD h 2 0) (getD h 3 0) (slab h l .link) (k .good) b o) refl refl;
+          next = becomes (freeCall b) d (a .1) (good-free (getD h 0 0) (getD h 1 0) (getD h 2 0) (getD h 3 0) (slab h l .link) (k .good) b o) refl refl;
           done = λ q. (a .0, ap freeList (a .1 .object) ∙ pushed (getD h 0 0) (getD h 1 0) (getD h 2 0) (getD h 3 0) (slab h l .link) (k .good) b o);
           refused = λ q. clash (sym o ∙ q);
         })
         (d .code, d .after)
 
   step : (c : Call) (r : ℤ) (h' l' : List ℕ) → Calls c h l r h' l' → Kept z n (record { call = c; answer = r } ∷ xs) h' l'
-  step allocs r h' l' d = pops r h' l' d .next
-  step (frees b) r h' l' d = pushes r h' l' b d .next
+  step allocCall r h' l' d = pops r h' l' d .next
+  step (freeCall b) r h' l' d = pushes r h' l' b d .next
 
   -- what is held, and what is free
   all-held : freeList (slab h l) ≡ [] → (b : ℕ) → b < n → held xs b ≡ true
@@ -148,5 +148,5 @@ module _ (z n : ℕ) (h l h₀ l₀ : List ℕ) (s : Starts z n h l ok h₀ l₀
   kept [] h' l' start = kept-new
   kept (x ∷ xs) h' l' (then {h = a} {l = b} c r u d) = step z n xs a b (kept xs a b u) c r h' l' d
 
-  pub slab-history : (xs : List Event) (h' l' : List ℕ) → Run h₀ l₀ xs h' l' → Promise z n xs h' l'
-  slab-history xs h' l' u = promise z n xs h' l' (kept xs h' l' u)
+pub slab-history : (z n : ℕ) → Always z n
+slab-history z n h l h₀ l₀ s xs h' l' u = promise z n xs h' l' (kept z n h l h₀ l₀ s xs h' l' u)

@@ -14,7 +14,7 @@ use Rattle.thread.specs.Code.{ok, enomem, einval}
 use Rattle.store.specs.Store.{Reply, refuse, accept, answer, Place, reply, After, Becomes, Did}
 use Rattle.mem_slab.specs.Slab.{Slab, isOut, alloc, free, given, returned}
 use Rattle.mem_slab.specs.Post.{slab, place, fit, led}
-use Rattle.mem_slab.specs.Blocks.{Call, allocs, frees, Calls, Event, Run, start, then, changed, held, out, Given, Returned, Outcome, NoTwo}
+use Rattle.mem_slab.specs.Blocks.{Call, allocCall, freeCall, Calls, Event, Run, start, then, changed, held, out, Given, Returned, Outcome, NoTwo}
 use Rattle.mem_slab.proofs.Memory.{both, refuted, reply-fit, reply-unfit, Fit, is-fit, next-link}
 
 -- a link is written
@@ -87,44 +87,44 @@ module _ (h l : List ℕ) (f : Fit h l) (h' l' : List ℕ) where
       }
 
 pub outcome : (k : Call) (h l : List ℕ) (r : ℤ) (h' l' : List ℕ) → Calls k h l r h' l' → Outcome k r h l h' l'
-outcome allocs h l r h' l' d =
-    alloc-cases h l (λ y. (r ≡ answer y) × After place y h l h' l' → Outcome allocs r h l h' l')
-    (λ e z. subst (λ c. Outcome allocs c h l h' l') (sym (z .0)) (z .1)) (λ f u z. subst (λ c. Outcome allocs c h l h' l') (sym (z .0)) (z .1))
-    (λ f u z. subst (λ c. Outcome allocs c h l h' l') (sym (z .0)) (gives h l f h' l' u (z .1))) (d .code, d .after)
-outcome (frees b) h l r h' l' d =
-    free-cases b h l (λ y. (r ≡ answer y) × After place y h l h' l' → Outcome (frees b) r h l h' l')
-    (λ e z. subst (λ c. Outcome (frees b) c h l h' l') (sym (z .0)) (z .1)) (λ f k z. subst (λ c. Outcome (frees b) c h l h' l') (sym (z .0)) (z .1))
-    (λ f k u z. subst (λ c. Outcome (frees b) c h l h' l') (sym (z .0)) (z .1))
-    (λ f k u z. subst (λ c. Outcome (frees b) c h l h' l') (sym (z .0)) (refl, takes h l f h' l' b k (z .1))) (d .code, d .after)
+outcome allocCall h l r h' l' d =
+    alloc-cases h l (λ y. (r ≡ answer y) × After place y h l h' l' → Outcome allocCall r h l h' l')
+    (λ e z. subst (λ c. Outcome allocCall c h l h' l') (sym (z .0)) (z .1)) (λ f u z. subst (λ c. Outcome allocCall c h l h' l') (sym (z .0)) (z .1))
+    (λ f u z. subst (λ c. Outcome allocCall c h l h' l') (sym (z .0)) (gives h l f h' l' u (z .1))) (d .code, d .after)
+outcome (freeCall b) h l r h' l' d =
+    free-cases b h l (λ y. (r ≡ answer y) × After place y h l h' l' → Outcome (freeCall b) r h l h' l')
+    (λ e z. subst (λ c. Outcome (freeCall b) c h l h' l') (sym (z .0)) (z .1)) (λ f k z. subst (λ c. Outcome (freeCall b) c h l h' l') (sym (z .0)) (z .1))
+    (λ f k u z. subst (λ c. Outcome (freeCall b) c h l h' l') (sym (z .0)) (z .1))
+    (λ f k u z. subst (λ c. Outcome (freeCall b) c h l h' l') (sym (z .0)) (refl, takes h l f h' l' b k (z .1))) (d .code, d .after)
 
 -- a block is out as callers would count it
 pub out-changes : (k : Call) (r : ℤ) (b : ℕ) (h l h' l' : List ℕ) → Outcome k r h l h' l' → out h' l' b ≡ changed k r b (out h l b)
-out-changes allocs (pos i) b h l h' l' o = go (eqb i b) refl
+out-changes allocCall (pos i) b h l h' l' o = go (eqb i b) refl
   where
     go : (c : Bool) → eqb i b ≡ c → out h' l' b ≡ cond c true (out h l b)
     go true t = rw (eqb-true i b t) at (o .after)
     go false t = o .others b (λ x. eqb-false i b t (sym x))
-out-changes allocs (negsuc n) b h l h' l' o = rw (o .0, o .1)
-out-changes (frees i) (pos n) b h l h' l' o = go (eqb i b) refl
+out-changes allocCall (negsuc n) b h l h' l' o = rw (o .0, o .1)
+out-changes (freeCall i) (pos n) b h l h' l' o = go (eqb i b) refl
   where
     go : (c : Bool) → eqb i b ≡ c → out h' l' b ≡ cond c false (out h l b)
     go true t = rw (eqb-true i b t) at (o .1 .after)
     go false t = o .1 .others b (λ x. eqb-false i b t (sym x))
-out-changes (frees i) (negsuc n) b h l h' l' o = rw (o .0, o .1)
+out-changes (freeCall i) (negsuc n) b h l h' l' o = rw (o .0, o .1)
 
 changed-too : (k : Call) (r : ℤ) (b : ℕ) (v w : Bool) → (v ≡ true → w ≡ true) → changed k r b v ≡ true → changed k r b w ≡ true
-changed-too allocs (pos i) b v w f e = go (eqb i b) e
+changed-too allocCall (pos i) b v w f e = go (eqb i b) e
   where
     go : (c : Bool) → cond c true v ≡ true → cond c true w ≡ true
     go true z = refl
     go false z = f z
-changed-too allocs (negsuc n) b v w f e = f e
-changed-too (frees i) (pos n) b v w f e = go (eqb i b) e
+changed-too allocCall (negsuc n) b v w f e = f e
+changed-too (freeCall i) (pos n) b v w f e = go (eqb i b) e
   where
     go : (c : Bool) → cond c false v ≡ true → cond c false w ≡ true
     go true z = z
     go false z = f z
-changed-too (frees i) (negsuc n) b v w f e = f e
+changed-too (freeCall i) (negsuc n) b v w f e = f e
 
 module _ (h₀ l₀ : List ℕ) where
   -- a block that is held is out
@@ -134,4 +134,4 @@ module _ (h₀ l₀ : List ℕ) where
       out-changes k r b h l h' l' (outcome k h l r h' l' d) ∙ changed-too k r b (held xs b) (out h l b) (held-out xs h l b u) e
 
   pub no-two : NoTwo h₀ l₀
-  no-two xs h l h' l' b u d = refuted (held xs b) (λ e. clash (sym (held-out xs h l b u e) ∙ outcome allocs h l (pos b) h' l' d .before))
+  no-two xs h l h' l' b u d = refuted (held xs b) (λ e. clash (sym (held-out xs h l b u e) ∙ outcome allocCall h l (pos b) h' l' d .before))

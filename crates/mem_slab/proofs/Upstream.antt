@@ -16,7 +16,7 @@ use Rattle.seq.proofs.Order.{clash}
 use Rattle.thread.specs.Code.{ok, einval}
 use Rattle.store.specs.Store.{Reply, refuse, accept, answer, reply, After, Becomes}
 use Rattle.store.proofs.Laws.{became, answers}
-use Rattle.mem_slab.specs.Slab.{Slab, leads, frees, alloc, free, given}
+use Rattle.mem_slab.specs.Slab.{Slab, leads, alloc, free, given}
 use Rattle.mem_slab.specs.Post.{slab, place, fit, led, Allocs, Frees, sees, isFull, isEmpty, Starts, AllocDecided, FreeDecided}
 use Rattle.mem_slab.specs.Blocks.{Call, meant, Calls, out}
 use Rattle.mem_slab.specs.Upstream.{Inv, Init, Keeps, Alloc, Free, NumUsedGet, NumFreeGet, NumBlocksGet, BlockSizeGet, IsFull, IsEmpty, AllocDecide, FreeDecide, Inductive, AllocFree, AllocFreeMemory, FreeAlloc, Conserves, FullRejects, AllFreeRejects}

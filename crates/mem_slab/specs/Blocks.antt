@@ -1,4 +1,4 @@
--- What a caller may believe of blocks, in any memory: sound, malformed, or made by nobody.
+-- What a caller may believe of blocks, in any memory: as init made it or not, malformed, with any links.
 use mathlib.Core.Path.{_≡_}
 use mathlib.Core.Bool.{Bool, true, false, cond}
 use mathlib.Core.List.{List, [], _∷_}
@@ -12,12 +12,13 @@ use Rattle.mem_slab.specs.Post.{slab, place, led}
 
 -- the calls that change a slab
 pub data Call : Type 0 where
-  allocs : Call
-  frees : (block : ℕ) → Call
+  allocCall : Call
+  freeCall : (block : ℕ) → Call
 
+-- what each means
 abbrev pub meant : Call → Slab → Reply Slab
-meant allocs = alloc
-meant (frees b) = free b
+meant allocCall = alloc
+meant (freeCall b) = free b
 
 -- the call k on the memory h and l: the answer r, and the memory after it
 abbrev pub Calls : Call → List ℕ → List ℕ → ℤ → List ℕ → List ℕ → Type 0
@@ -34,24 +35,26 @@ pub data Run (h₀ l₀ : List ℕ) : List Event → List ℕ → List ℕ → T
   then : {xs : List Event} {h l h' l' : List ℕ} (k : Call) (r : ℤ) → Run h₀ l₀ xs h l → Calls k h l r h' l'
       → Run h₀ l₀ (record { call = k; answer = r } ∷ xs) h' l'
 
--- whether the block b is somebody's, by calls and answers alone: from an allocation that answers it to a free of it that answers 0
+-- what a call and its answer change of whether somebody has the block b
 abbrev pub changed : Call → ℤ → ℕ → Bool → Bool
-changed allocs (pos i) b was = cond (eqb i b) true was
-changed allocs (negsuc n) b was = was
-changed (frees i) (pos n) b was = cond (eqb i b) false was
-changed (frees i) (negsuc n) b was = was
+changed allocCall (pos i) b was = cond (eqb i b) true was
+changed allocCall (negsuc n) b was = was
+changed (freeCall i) (pos n) b was = cond (eqb i b) false was
+changed (freeCall i) (negsuc n) b was = was
 
+-- somebody has it: from an alloc that answers it to a free of it that answers no refusal. Nothing but calls and answers is looked at
 abbrev pub held : List Event → ℕ → Bool
 held [] b = false
 held (x ∷ xs) b = changed (x .call) (x .answer) b (held xs b)
 
+-- it is out, by the memory
 abbrev pub out : List ℕ → List ℕ → ℕ → Bool
 out h l b = isOut (slab h l) b
 
 abbrev pub OthersStay : ℕ → List ℕ → List ℕ → List ℕ → List ℕ → Type 0
 OthersStay b h l h' l' = (i : ℕ) → (i ≡ b → ⊥) → out h' l' i ≡ out h l i
 
--- an allocation answered b: it is a block, was not out, and is; no other block's state changes
+-- alloc answered b: it is a block, was not out, and is; no other block's state changes
 pub record Given (b : ℕ) (h l h' l' : List ℕ) : Type 0 where
   pub here : b < getD h 0 0
   pub before : out h l b ≡ false
@@ -66,12 +69,12 @@ pub record Returned (b : ℕ) (h l h' l' : List ℕ) : Type 0 where
 
 -- all that a call can do to blocks
 abbrev pub Outcome : Call → ℤ → List ℕ → List ℕ → List ℕ → List ℕ → Type 0
-Outcome allocs (pos b) h l h' l' = Given b h l h' l'
-Outcome (frees b) (pos n) h l h' l' = (n ≡ 0) × Returned b h l h' l'
-Outcome allocs (negsuc n) h l h' l' = (h' ≡ h) × (l' ≡ l)
-Outcome (frees b) (negsuc n) h l h' l' = (h' ≡ h) × (l' ≡ l)
+Outcome allocCall (pos b) h l h' l' = Given b h l h' l'
+Outcome allocCall (negsuc n) h l h' l' = (h' ≡ h) × (l' ≡ l)
+Outcome (freeCall b) (pos n) h l h' l' = (n ≡ 0) × Returned b h l h' l'
+Outcome (freeCall b) (negsuc n) h l h' l' = (h' ≡ h) × (l' ≡ l)
 
--- no two callers hold one block: an allocation never answers a block that somebody holds
+-- no two callers have one block: after any calls, alloc never answers a block that is held
 abbrev pub NoTwo : List ℕ → List ℕ → Type 0
 NoTwo h₀ l₀ =
-    (xs : List Event) (h l h' l' : List ℕ) (b : ℕ) → Run h₀ l₀ xs h l → Calls allocs h l (pos b) h' l' → held xs b ≡ false
+    (xs : List Event) (h l h' l' : List ℕ) (b : ℕ) → Run h₀ l₀ xs h l → Calls allocCall h l (pos b) h' l' → held xs b ≡ false

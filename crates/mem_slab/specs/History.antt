@@ -8,8 +8,8 @@ use lib.IntN.{ℤ, pos}
 use lib.ListN.{getD, drop}
 use Rattle.thread.specs.Code.{ok, enomem, einval}
 use Rattle.mem_slab.specs.Slab.{Slab, isOut}
-use Rattle.mem_slab.specs.Post.{slab}
-use Rattle.mem_slab.specs.Blocks.{Event, Calls, allocs, frees, held}
+use Rattle.mem_slab.specs.Post.{slab, Starts}
+use Rattle.mem_slab.specs.Blocks.{Event, Calls, Run, allocCall, freeCall, held}
 
 -- how often x stands in l
 abbrev pub count : ℕ → List ℕ → ℕ
@@ -39,7 +39,7 @@ abbrev pub top : List ℕ → ℤ
 top [] = enomem
 top (b ∷ f) = pos b
 
--- after the events xs, the last in front, from init of n blocks of the size z; h and l is the memory now
+-- n blocks of the size z, after the events xs, the last in front; h and l is the memory now
 pub record Promise (z n : ℕ) (xs : List Event) (h l : List ℕ) : Type 0 where
   pub blocks : getD h 0 0 ≡ n
   pub size : getD h 1 0 ≡ z
@@ -49,9 +49,14 @@ pub record Promise (z n : ℕ) (xs : List Event) (h l : List ℕ) : Type 0 where
   -- each free block stands once in the free list, and nothing else does
   pub once : (b : ℕ) → count b (freeList (slab h l)) ≡ cond (isFree (slab h l) b) 1 0
   -- alloc takes the first of the free list. It answers -12 if there is none, which is exactly if all blocks are held; it never answers -22
-  pub alloc : (r : ℤ) (h' l' : List ℕ) → Calls allocs h l r h' l' → (r ≡ top (freeList (slab h l))) × (freeList (slab h' l') ≡ drop 1 (freeList (slab h l)))
+  pub alloc : (r : ℤ) (h' l' : List ℕ) → Calls allocCall h l r h' l' → (r ≡ top (freeList (slab h l))) × (freeList (slab h' l') ≡ drop 1 (freeList (slab h l)))
   pub all-held : freeList (slab h l) ≡ [] → (b : ℕ) → b < n → held xs b ≡ true
   pub some-free : (b : ℕ) → b < n → held xs b ≡ false → freeList (slab h l) ≡ [] → ⊥
   -- free puts a block that is held in front: last freed, first given. Any other number is refused
-  pub free : (b : ℕ) (r : ℤ) (h' l' : List ℕ) → Calls (frees b) h l r h' l' → held xs b ≡ true → (r ≡ ok) × (freeList (slab h' l') ≡ b ∷ freeList (slab h l))
-  pub not-held : (b : ℕ) (r : ℤ) (h' l' : List ℕ) → Calls (frees b) h l r h' l' → held xs b ≡ false → r ≡ einval
+  pub free : (b : ℕ) (r : ℤ) (h' l' : List ℕ) → Calls (freeCall b) h l r h' l' → held xs b ≡ true → (r ≡ ok) × (freeList (slab h' l') ≡ b ∷ freeList (slab h l))
+  pub not-held : (b : ℕ) (r : ℤ) (h' l' : List ℕ) → Calls (freeCall b) h l r h' l' → held xs b ≡ false → r ≡ einval
+
+-- from any memory in which init made a slab, h₀ and l₀
+abbrev pub Always : ℕ → ℕ → Type 0
+Always z n =
+    (h l h₀ l₀ : List ℕ) → Starts z n h l ok h₀ l₀ → (xs : List Event) (h' l' : List ℕ) → Run h₀ l₀ xs h' l' → Promise z n xs h' l'

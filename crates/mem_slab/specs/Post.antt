@@ -17,11 +17,12 @@ slab h l = record { blocks = getD h 0 0; size = getD h 1 0; used = getD h 2 0; n
 abbrev pub place : Place Slab
 place = record { words = 4; size = λ h. getD h 0 0; object = slab; formed = λ h l. leb 4 (length h) && sound (slab h l) }
 
--- as it should be, as far as constant work can tell. In memory that init did not make, the block that is next after an alloc may name
--- none: the call after it finds out, and refuses
+-- as it should be, as far as constant work can tell
 abbrev pub fit : List ℕ → List ℕ → Bool
 fit h l = place .formed h l && leads (slab h l)
 
+-- f, of a slab that leads; any other is refused. Links that init did not make can lead for one alloc and no longer: so this is tested at
+-- each call, and is no part of the place, which stays as it should be
 abbrev pub led : {S : Type 0} → (Slab → Reply S) → Slab → Reply S
 led f s = cond (leads s) (f s) (refuse einval)
 

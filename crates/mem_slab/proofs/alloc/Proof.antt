@@ -22,10 +22,10 @@ returns : tie.Need-returns
 returns c = let a = c .before .before .before .before .before .before .args in let z = tested-no (a .h .now) (a .l .now) _ (c .before .formed .ensures) (c .if1 .taken) in unfit (a .h .now) (a .l .now) slab.alloc z
 
 slice-read-used : tie.Need-slice-read-used
-slice-read-used c = let a = c .before .before .before .before .before .before .before .args in let f = tested (a .h .now) (a .l .now) _ (c .before .before .formed .ensures) (c .before .if1 .left) in omega (arith, f .sound .words)
+slice-read-used c = let a = c .before .before .before .before .before .before .before .args in let f = tested (a .h .now) (a .l .now) _ (c .before .before .formed .ensures) (c .before .if1 .left) in omega arith
 
 slice-read-if2 : tie.Need-slice-read-if2
-slice-read-if2 c = let a = c .before .before .before .before .before .before .before .before .args in let f = tested (a .h .now) (a .l .now) _ (c .before .before .before .formed .ensures) (c .before .before .if1 .left) in omega (arith, f .sound .words)
+slice-read-if2 c = let a = c .before .before .before .before .before .before .before .before .args in let f = tested (a .h .now) (a .l .now) _ (c .before .before .before .formed .ensures) (c .before .before .if1 .left) in omega arith
 
 same-length-3 : tie.Need-same-length-3
 same-length-3 c = search needs
@@ -37,22 +37,22 @@ returns-2 : tie.Need-returns-2
 returns-2 c = let a = c .before .before .before .before .before .before .before .before .before .args in let f = tested (a .h .now) (a .l .now) _ (c .before .before .before .before .formed .ensures) (c .before .before .before .if1 .left) in all-out (a .h .now) (a .l .now) f (omega arith)
 
 slice-read-block : tie.Need-slice-read-block
-slice-read-block c = let a = c .before .before .before .before .before .before .before .before .before .before .args in let f = tested (a .h .now) (a .l .now) _ (c .before .before .before .before .before .formed .ensures) (c .before .before .before .before .if1 .left) in omega (arith, f .sound .words)
+slice-read-block c = let a = c .before .before .before .before .before .before .before .before .before .before .args in let f = tested (a .h .now) (a .l .now) _ (c .before .before .before .before .before .formed .ensures) (c .before .before .before .before .if1 .left) in omega arith
 
 add-h : tie.Need-add-h
-add-h c = let a = c .before .before .before .before .before .before .before .before .before .before .args in let f = tested (a .h .now) (a .l .now) _ (c .before .before .before .before .before .formed .ensures) (c .before .before .before .before .if1 .left) in omega (arith, f .sound .few, c .slice-known5 .given 0)
+add-h c = let a = c .before .before .before .before .before .before .before .before .before .before .args in let f = tested (a .h .now) (a .l .now) _ (c .before .before .before .before .before .formed .ensures) (c .before .before .before .before .if1 .left) in omega (arith, c .slice-known5 .given 0)
 
 slice-write-h : tie.Need-slice-write-h
-slice-write-h c = let a = c .before .before .before .before .before .before .before .before .before .before .args in let f = tested (a .h .now) (a .l .now) _ (c .before .before .before .before .before .formed .ensures) (c .before .before .before .before .if1 .left) in omega (arith, f .sound .words)
+slice-write-h c = let a = c .before .before .before .before .before .before .before .before .before .before .args in let f = tested (a .h .now) (a .l .now) _ (c .before .before .before .before .before .formed .ensures) (c .before .before .before .before .if1 .left) in omega arith
 
 unlink-requires : tie.Need-unlink-requires
-unlink-requires c κs = let a = c .before .before .before .before .before .before .before .before .before .before .before .args in let f = tested (a .h .now) (a .l .now) _ (c .before .before .before .before .before .before .formed .ensures) (c .before .before .before .before .before .if1 .left) in omega (arith, f .sound .inside, f .sound .room)
+unlink-requires c κs = let a = c .before .before .before .before .before .before .before .before .before .before .before .args in let f = tested (a .h .now) (a .l .now) _ (c .before .before .before .before .before .before .formed .ensures) (c .before .before .before .before .before .if1 .left) in omega arith
 
 sub-h : tie.Need-sub-h
-sub-h c = let a = c .before .before .before .before .before .before .before .before .before .before .before .before .before .before .args in let f = tested (a .h .now) (a .l .now) _ (c .before .before .before .before .before .before .before .before .before .formed .ensures) (c .before .before .before .before .before .before .before .before .if1 .left) in omega (arith, c .before .before .unlink .ensures .0, f .free (omega (arith, f .sound .few, c .before .before .before .before .before .if2 .left)))
+sub-h c = let a = c .before .before .before .before .before .before .before .before .before .before .before .before .before .before .args in let f = tested (a .h .now) (a .l .now) _ (c .before .before .before .before .before .before .before .before .before .formed .ensures) (c .before .before .before .before .before .before .before .before .if1 .left) in omega (arith, c .before .before .unlink .ensures .0, f .free (omega (arith, c .before .before .before .before .before .if2 .left)))
 
 slice-write-h-2 : tie.Need-slice-write-h-2
-slice-write-h-2 c = let a = c .before .before .before .before .before .before .before .before .before .before .before .before .before .before .args in let f = tested (a .h .now) (a .l .now) _ (c .before .before .before .before .before .before .before .before .before .formed .ensures) (c .before .before .before .before .before .before .before .before .if1 .left) in lt-length-set (a .h .now) 2 _ (omega (arith, f .sound .words))
+slice-write-h-2 c = let a = c .before .before .before .before .before .before .before .before .before .before .before .before .before .before .args in let f = tested (a .h .now) (a .l .now) _ (c .before .before .before .before .before .before .before .before .before .formed .ensures) (c .before .before .before .before .before .before .before .before .if1 .left) in lt-length-set (a .h .now) 2 _ (omega arith)
 
 signed-requires : tie.Need-signed-requires
 signed-requires c κs = search needs

@@ -22,7 +22,7 @@ returns : tie.Need-returns
 returns c = let a = c .before .before .before .before .before .before .args in not-out (a .block) (a .h .now) (a .l .now) (sym (c .before .is-out .ensures) ∙ not-true _ (c .if1 .taken))
 
 slice-read-used : tie.Need-slice-read-used
-slice-read-used c = let a = c .before .before .before .before .before .before .before .args in let q = both _ _ (sym (c .before .before .is-out .ensures) ∙ not-false _ (c .before .if1 .left)) in let f = is-fit (a .h .now) (a .l .now) (q .0) in omega (arith, f .sound .words)
+slice-read-used c = let a = c .before .before .before .before .before .before .before .args in let q = both _ _ (sym (c .before .before .is-out .ensures) ∙ not-false _ (c .before .if1 .left)) in let f = is-fit (a .h .now) (a .l .now) (q .0) in omega arith
 
 same-length-3 : tie.Need-same-length-3
 same-length-3 c = search needs
@@ -34,10 +34,10 @@ returns-2 : tie.Need-returns-2
 returns-2 c = let a = c .before .before .before .before .before .before .before .before .args in let q = both _ _ (sym (c .before .before .before .is-out .ensures) ∙ not-false _ (c .before .before .if1 .left)) in let f = is-fit (a .h .now) (a .l .now) (q .0) in none-out (a .h .now) (a .l .now) f (a .block) (q .1) (omega arith)
 
 slice-read-l : tie.Need-slice-read-l
-slice-read-l c = let a = c .before .before .before .before .before .before .before .before .before .args in let q = both _ _ (sym (c .before .before .before .before .is-out .ensures) ∙ not-false _ (c .before .before .before .if1 .left)) in let f = is-fit (a .h .now) (a .l .now) (q .0) in omega (arith, f .sound .words)
+slice-read-l c = let a = c .before .before .before .before .before .before .before .before .before .args in let q = both _ _ (sym (c .before .before .before .before .is-out .ensures) ∙ not-false _ (c .before .before .before .if1 .left)) in let f = is-fit (a .h .now) (a .l .now) (q .0) in omega arith
 
 add-l : tie.Need-add-l
-add-l c = let a = c .before .before .before .before .before .before .before .before .before .args in let q = both _ _ (sym (c .before .before .before .before .is-out .ensures) ∙ not-false _ (c .before .before .before .if1 .left)) in let f = is-fit (a .h .now) (a .l .now) (q .0) in omega (arith, f .sound .inside, c .slice-known4 .given 0)
+add-l c = let a = c .before .before .before .before .before .before .before .before .before .args in let q = both _ _ (sym (c .before .before .before .before .is-out .ensures) ∙ not-false _ (c .before .before .before .if1 .left)) in let f = is-fit (a .h .now) (a .l .now) (q .0) in omega (arith, c .slice-known4 .given 0)
 
 mul-l : tie.Need-mul-l
 mul-l c = search needs
@@ -49,10 +49,10 @@ sub-h : tie.Need-sub-h
 sub-h c = search needs
 
 slice-write-h : tie.Need-slice-write-h
-slice-write-h c = let a = c .before .before .before .before .before .before .before .before .before .args in let q = both _ _ (sym (c .before .before .before .before .is-out .ensures) ∙ not-false _ (c .before .before .before .if1 .left)) in let f = is-fit (a .h .now) (a .l .now) (q .0) in omega (arith, f .sound .words)
+slice-write-h c = let a = c .before .before .before .before .before .before .before .before .before .args in let q = both _ _ (sym (c .before .before .before .before .is-out .ensures) ∙ not-false _ (c .before .before .before .if1 .left)) in let f = is-fit (a .h .now) (a .l .now) (q .0) in omega arith
 
 slice-write-h-2 : tie.Need-slice-write-h-2
-slice-write-h-2 c = let a = c .before .before .before .before .before .before .before .before .before .args in let q = both _ _ (sym (c .before .before .before .before .is-out .ensures) ∙ not-false _ (c .before .before .before .if1 .left)) in let f = is-fit (a .h .now) (a .l .now) (q .0) in lt-length-set (a .h .now) 2 _ (omega (arith, f .sound .words))
+slice-write-h-2 c = let a = c .before .before .before .before .before .before .before .before .before .args in let q = both _ _ (sym (c .before .before .before .before .is-out .ensures) ∙ not-false _ (c .before .before .before .if1 .left)) in let f = is-fit (a .h .now) (a .l .now) (q .0) in lt-length-set (a .h .now) 2 _ (omega arith)
 
 same-length-5 : tie.Need-same-length-5
 same-length-5 c = search needs

@@ -15,10 +15,10 @@ returns : tie.Need-returns
 returns c = let a = c .before .before .before .before .args in let z = tested-no (a .h .now) (a .l .now) _ (c .before .formed .ensures) (c .if1 .taken) in unseen (a .h .now) (a .l .now) isFull z
 
 shared-slice-read-if2 : tie.Need-shared-slice-read-if2
-shared-slice-read-if2 c = let a = c .before .before .before .before .before .args in let f = tested (a .h .now) (a .l .now) _ (c .before .before .formed .ensures) (c .before .if1 .left) in omega (arith, f .sound .words)
+shared-slice-read-if2 c = let a = c .before .before .before .before .before .args in let f = tested (a .h .now) (a .l .now) _ (c .before .before .formed .ensures) (c .before .if1 .left) in omega arith
 
 shared-slice-read-if2-2 : tie.Need-shared-slice-read-if2-2
-shared-slice-read-if2-2 c = let a = c .before .before .before .before .before .before .args in let f = tested (a .h .now) (a .l .now) _ (c .before .before .before .formed .ensures) (c .before .before .if1 .left) in omega (arith, f .sound .words)
+shared-slice-read-if2-2 c = let a = c .before .before .before .before .before .before .args in let f = tested (a .h .now) (a .l .now) _ (c .before .before .before .formed .ensures) (c .before .before .if1 .left) in omega arith
 
 returns-2 : tie.Need-returns-2
 returns-2 c = let a = c .before .before .before .before .before .before .before .args in let f = tested (a .h .now) (a .l .now) _ (c .before .before .before .before .formed .ensures) (c .before .before .before .if1 .left) in sym (full (slab (a .h .now) (a .l .now)) (omega arith)) ∙ seen (a .h .now) (a .l .now) isFull f

@@ -16,13 +16,13 @@ returns : tie.Need-returns
 returns c = let a = c .before .before .before .before .args in let z = tested-no (a .h .now) (a .l .now) _ (c .before .formed .ensures) (c .if1 .taken) in unseen (a .h .now) (a .l .now) (λ s. pos (s .blocks - s .used)) z
 
 shared-slice-read-signed : tie.Need-shared-slice-read-signed
-shared-slice-read-signed c = let a = c .before .before .before .before .before .args in let f = tested (a .h .now) (a .l .now) _ (c .before .before .formed .ensures) (c .before .if1 .left) in omega (arith, f .sound .words)
+shared-slice-read-signed c = let a = c .before .before .before .before .before .args in let f = tested (a .h .now) (a .l .now) _ (c .before .before .formed .ensures) (c .before .if1 .left) in omega arith
 
 shared-slice-read-signed-2 : tie.Need-shared-slice-read-signed-2
-shared-slice-read-signed-2 c = let a = c .before .before .before .before .before .before .args in let f = tested (a .h .now) (a .l .now) _ (c .before .before .before .formed .ensures) (c .before .before .if1 .left) in omega (arith, f .sound .words)
+shared-slice-read-signed-2 c = let a = c .before .before .before .before .before .before .args in let f = tested (a .h .now) (a .l .now) _ (c .before .before .before .formed .ensures) (c .before .before .if1 .left) in omega arith
 
 sub-signed : tie.Need-sub-signed
-sub-signed c = let a = c .before .before .before .before .before .before .args in let f = tested (a .h .now) (a .l .now) _ (c .before .before .before .formed .ensures) (c .before .before .if1 .left) in omega (arith, f .sound .few)
+sub-signed c = let a = c .before .before .before .before .before .before .args in let f = tested (a .h .now) (a .l .now) _ (c .before .before .before .formed .ensures) (c .before .before .if1 .left) in omega arith
 
 signed-requires : tie.Need-signed-requires
 signed-requires c κs = search needs

@@ -15,7 +15,7 @@ returns : tie.Need-returns
 returns c = let a = c .before .before .before .before .args in let z = tested-no (a .h .now) (a .l .now) _ (c .before .formed .ensures) (c .if1 .taken) in unseen (a .h .now) (a .l .now) (λ s. pos (s .used)) z
 
 shared-slice-read-signed : tie.Need-shared-slice-read-signed
-shared-slice-read-signed c = let a = c .before .before .before .before .before .args in let f = tested (a .h .now) (a .l .now) _ (c .before .before .formed .ensures) (c .before .if1 .left) in omega (arith, f .sound .words)
+shared-slice-read-signed c = let a = c .before .before .before .before .before .args in let f = tested (a .h .now) (a .l .now) _ (c .before .before .formed .ensures) (c .before .if1 .left) in omega arith
 
 signed-requires : tie.Need-signed-requires
 signed-requires c κs = search needs
