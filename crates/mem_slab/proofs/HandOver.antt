@@ -11,7 +11,7 @@ use lib.Seq.{set-set, set-getD, getD-set-same, length-take-le}
 use borrow.Author.Tests.{lt-ltb, le-leb, ltb-true, ltb-false, ne-eqb, eqb-true}
 use Rattle.thread.specs.Code.{ok}
 use Rattle.store.specs.Store.{accept, answer, After, Becomes}
-use Rattle.store.proofs.Laws.{became, answers}
+use Rattle.store.proofs.Laws.{no-code, became, answers}
 use Rattle.mem_slab.specs.Slab.{Slab, isOut, alloc, returned}
 use Rattle.mem_slab.specs.Post.{slab, place, led}
 use Rattle.mem_slab.specs.HandOver.{HandedOver, HandOver, Counts, Ask, allocates, releases, next, after, NoneInVain}
@@ -45,13 +45,10 @@ module _ (n z u x b : ℕ) (k : List ℕ) (some-out : 0 < u) (few : u ≤ n) (in
       let y : suc x - 1 ≡ x = omega arith in
       rw (lt-ltb (u - 1) n (omega arith), getD-set-same k b (suc x) 0 (omega arith), lt-ltb 0 (suc x) (omega arith), le-leb (suc x) n (omega arith), y, back, unset)
 
-pub refused-ok : {P : Type 0} {n : ℕ} → ok ≡ negsuc n → P
-refused-ok e = absurd (let y : _≡_ {A = ℕ} 0 1 = cc in omega arith)
-
 pub hand-over : (b : ℕ) (h l : List ℕ) → HandOver b h l
 hand-over b h l h₁ l₁ h' l' r d a =
-    free-cases b h l (λ y. (ok ≡ answer y) × After place y h l h₁ l₁ → HandedOver b h l r h' l') (λ e q. refused-ok (q .0))
-    (λ f o q. refused-ok (q .0)) (λ f o e q. refused-ok (q .0)) (λ f o e q. go f o e (q .1)) (d .code, d .after)
+    free-cases b h l (λ y. (ok ≡ answer y) × After place y h l h₁ l₁ → HandedOver b h l r h' l') (λ e q. absurd (no-code (q .0)))
+    (λ f o q. absurd (no-code (q .0))) (λ f o e q. absurd (no-code (q .0))) (λ f o e q. go f o e (q .1)) (d .code, d .after)
   where
     go : Fit h l → isOut (slab h l) b ≡ true → 0 < getD h 2 0 → Becomes place (returned (slab h l) b (getD h 2 0 - 1)) h l h₁ l₁ → HandedOver b h l r h' l'
     go f o e m =

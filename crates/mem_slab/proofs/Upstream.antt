@@ -15,7 +15,7 @@ use borrow.Author.Tests.{lt-ltb, le-ltb, le-leb, lt-leb, ltb-false, eq-eqb, ne-e
 use Rattle.seq.proofs.Order.{clash}
 use Rattle.thread.specs.Code.{ok, einval}
 use Rattle.store.specs.Store.{Reply, refuse, accept, answer, reply, After, Becomes}
-use Rattle.store.proofs.Laws.{became, answers}
+use Rattle.store.proofs.Laws.{no-code, became, answers}
 use Rattle.mem_slab.specs.Slab.{Slab, leads, alloc, free, given}
 use Rattle.mem_slab.specs.Post.{slab, place, fit, led, Allocs, Frees, sees, isFull, isEmpty, Starts, AllocDecided, FreeDecided}
 use Rattle.mem_slab.specs.Blocks.{Call, meant, Calls, out}
@@ -23,7 +23,7 @@ use Rattle.mem_slab.specs.Upstream.{Inv, Init, Keeps, Alloc, Free, NumUs
 use Rattle.mem_slab.proofs.Memory.{both, Fit, fit-is, is-fit, is-sound, next-link, reply-unfit, unseen, seen}
 use Rattle.mem_slab.proofs.Outs.{ended, alloc-cases, free-cases}
 use Rattle.mem_slab.proofs.Answers.{full, not-full, empty, not-empty}
-use Rattle.mem_slab.proofs.HandOver.{same-header, same-links, refused-ok}
+use Rattle.mem_slab.proofs.HandOver.{same-header, same-links}
 
 -- decide functions
 module _ (u n m : ℕ) (w : Bool) (r : ℤ) (m' : ℕ) (d : AllocDecided u n w m r m') where
@@ -68,7 +68,7 @@ slab-init z n h l r h' l' w k s = go (ltb 0 z) (ltb 0 n) refl refl
 
     bad : (z ≡ 0) ⊎ (n ≡ 0) → r ≡ einval → Init z n r (slab h' l')
     bad e c =
-        let never : r ≡ ok → ⊥ = λ q. refused-ok (sym q ∙ c) in
+        let never : r ≡ ok → ⊥ = λ q. no-code (sym q ∙ c) in
         record { inv = λ q. absurd (never q); used = λ q. absurd (never q); blocks = λ q. absurd (never q); size = λ q. absurd (never q); code = λ q. c; reason = λ q. e }
 
     go : (a b : Bool) → ltb 0 z ≡ a → ltb 0 n ≡ b → Init z n r (slab h' l')
