@@ -96,7 +96,7 @@ enum { FLAGS = 3 };
 
 static inline bool pipe_malformed(const uint32_t *head, uint64_t buf_len)
 {
-    return ring_malformed(head, buf_len) || head[FLAGS] > (WQ_PIPE_FLAG_OPEN | WQ_PIPE_FLAG_RESET);
+    return ring_malformed(head, buf_len) || head[FLAGS] > (WQ_FLAG_OPEN | WQ_FLAG_RESET);
 }
 
 int32_t wq_pipe_init(uint32_t *head, const uint8_t *buf, uint64_t buf_len, uint32_t size)
@@ -104,7 +104,7 @@ int32_t wq_pipe_init(uint32_t *head, const uint8_t *buf, uint64_t buf_len, uint3
     (void)buf;
     int32_t code = ring_init(head, buf_len, size);
     if (code == WQ_OK)
-        head[FLAGS] = WQ_PIPE_FLAG_OPEN;
+        head[FLAGS] = WQ_FLAG_OPEN;
     return code;
 }
 
@@ -112,9 +112,9 @@ int64_t wq_pipe_write(uint32_t *head, uint8_t *buf, uint64_t buf_len, const uint
 {
     if (CHECKED && pipe_malformed(head, buf_len))
         return WQ_EINVAL;
-    if (head[FLAGS] & WQ_PIPE_FLAG_RESET)
+    if (head[FLAGS] & WQ_FLAG_RESET)
         return WQ_ECANCELED;
-    if (!(head[FLAGS] & WQ_PIPE_FLAG_OPEN))
+    if (!(head[FLAGS] & WQ_FLAG_OPEN))
         return WQ_EPIPE;
     if (CHECKED && src_len == 0)
         return WQ_ENOMSG;
@@ -127,12 +127,12 @@ int64_t wq_pipe_read(uint32_t *head, const uint8_t *buf, uint64_t buf_len, uint8
 {
     if (CHECKED && pipe_malformed(head, buf_len))
         return WQ_EINVAL;
-    if (head[FLAGS] & WQ_PIPE_FLAG_RESET)
+    if (head[FLAGS] & WQ_FLAG_RESET)
         return WQ_ECANCELED;
     if (CHECKED && out_len == 0)
         return WQ_ENOMSG;
     if (head[USED] == 0)
-        return head[FLAGS] & WQ_PIPE_FLAG_OPEN ? WQ_EAGAIN : WQ_EPIPE;
+        return head[FLAGS] & WQ_FLAG_OPEN ? WQ_EAGAIN : WQ_EPIPE;
     return bytes_out(head, buf, out, out_len);
 }
 

@@ -27,11 +27,11 @@ extern "C" {
 #define WQ_EPERM (-1)      /* the caller does not own it */
 #define WQ_ENOENT (-2)     /* the thread is not in this queue */
 #define WQ_EAGAIN (-11)    /* try again; also what a reset tells those that waited */
-#define WQ_ENOMEM (-12)    /* the queue is full */
-#define WQ_EBUSY (-16)     /* it cannot be had now; or the thread waits somewhere already */
-#define WQ_EINVAL (-22)    /* malformed object, priority above 31, or a thread that is not running */
+#define WQ_ENOMEM (-12)    /* no room: a full queue or stack, or all blocks are out */
+#define WQ_EBUSY (-16)     /* it cannot be had now; the thread waits somewhere already; an empty stack */
+#define WQ_EINVAL (-22)    /* malformed object, priority above 31, a thread that is not running, a length that does not fit */
 #define WQ_EPIPE (-32)     /* closed */
-#define WQ_ENOMSG (-35)    /* no message */
+#define WQ_ENOMSG (-35)    /* a message queue that is full or empty, or holds fewer; nothing asked of a pipe */
 #define WQ_EDEADLK (-45)   /* the caller would wait while it keeps the mutex that it should give back */
 #define WQ_EOVERFLOW (-139)
 #define WQ_ECANCELED (-140)
@@ -393,6 +393,449 @@ static inline int64_t wq_k_futex_val_get(const struct wq_futex *f) { return wq_f
 static inline int64_t wq_k_futex_num_waiters(const struct wq_futex *f) { return wq_futex_num_waiters(f->head, f->entry); }
 /* As wq_audit. */
 static inline bool wq_k_futex_audit(const struct wq_futex *f) { return wq_futex_audit(f->head, f->entry); }
+
+/* ---- Ring buffer -------------------------------------------------------------------------- */
+
+/* Bytes, first in first out, in a buffer that the caller lends: its first `capacity` bytes are the ring. */
+struct wq_ring_buf {
+    uint32_t head[3]; /* capacity, the place of the first byte, how many bytes it holds */
+    uint8_t *buf;
+    uint64_t buf_len;
+};
+
+int32_t wq_ring_buf_init(uint32_t *head, const uint8_t *buf, uint64_t buf_len, uint32_t capacity);
+int32_t wq_ring_buf_put(uint32_t *head, uint8_t *buf, uint64_t buf_len, uint8_t value);
+int32_t wq_ring_buf_get(uint32_t *head, const uint8_t *buf, uint64_t buf_len, uint8_t *value);
+int64_t wq_ring_buf_put_n(uint32_t *head, uint8_t *buf, uint64_t buf_len, const uint8_t *src, uint64_t src_len);
+int64_t wq_ring_buf_get_n(uint32_t *head, const uint8_t *buf, uint64_t buf_len, uint8_t *out, uint64_t out_len);
+int32_t wq_ring_buf_peek_at(const uint32_t *head, const uint8_t *buf, uint64_t buf_len, uint32_t idx, uint8_t *value);
+int32_t wq_ring_buf_reset(uint32_t *head, const uint8_t *buf, uint64_t buf_len);
+int64_t wq_ring_buf_size_get(const uint32_t *head, const uint8_t *buf, uint64_t buf_len);
+int64_t wq_ring_buf_space_get(const uint32_t *head, const uint8_t *buf, uint64_t buf_len);
+int64_t wq_ring_buf_capacity_get(const uint32_t *head, const uint8_t *buf, uint64_t buf_len);
+int32_t wq_ring_buf_is_empty(const uint32_t *head, const uint8_t *buf, uint64_t buf_len);
+int32_t wq_ring_buf_is_full(const uint32_t *head, const uint8_t *buf, uint64_t buf_len);
+int64_t wq_ring_buf_head_get(const uint32_t *head, const uint8_t *buf, uint64_t buf_len);
+int64_t wq_ring_buf_tail_get(const uint32_t *head, const uint8_t *buf, uint64_t buf_len);
+
+/* On plain numbers, for counters that run freely through 2^32.
+ * How many bytes can be claimed in one piece, and *offset is where that piece starts; a size of 0: 0, and *offset is 0.
+ * It does not look at how many bytes the ring holds. docs/DIFFERENCES.md: when this agrees with the object. */
+uint32_t wq_ring_buf_claim_decide(uint32_t head, uint32_t base, uint32_t buf_size, uint32_t requested,
+                                  uint32_t *offset);
+/* Whether so many were claimed and not yet finished; how many are free; how many it holds. */
+bool wq_ring_buf_finish_decide(uint32_t head, uint32_t tail, uint32_t size);
+uint32_t wq_ring_buf_space_get_decide(uint32_t put_head, uint32_t get_tail, uint32_t buf_size);
+uint32_t wq_ring_buf_size_get_decide(uint32_t put_tail, uint32_t get_head);
+
+/* WQ_OK: it is empty; WQ_EINVAL: capacity 0, or above the buffer's length, and r stays. */
+static inline int32_t wq_k_ring_buf_init(struct wq_ring_buf *r, uint8_t *buf, uint64_t buf_len, uint32_t capacity)
+{
+    int32_t code = wq_ring_buf_init(r->head, buf, buf_len, capacity);
+    if (code == WQ_OK) {
+        r->buf = buf;
+        r->buf_len = buf_len;
+    }
+    return code;
+}
+/* WQ_OK: the byte is behind those that it held; WQ_EAGAIN: it is full; WQ_EINVAL. */
+static inline int32_t wq_k_ring_buf_put(struct wq_ring_buf *r, uint8_t value)
+{
+    return wq_ring_buf_put(r->head, r->buf, r->buf_len, value);
+}
+/* WQ_OK: *value was the first; WQ_EAGAIN: it is empty; WQ_EINVAL. *value is written on WQ_OK only. */
+static inline int32_t wq_k_ring_buf_get(struct wq_ring_buf *r, uint8_t *value)
+{
+    return wq_ring_buf_get(r->head, r->buf, r->buf_len, value);
+}
+/* How many bytes went in, the first of src: the smaller of src_len and what is free. WQ_EINVAL. */
+static inline int64_t wq_k_ring_buf_put_n(struct wq_ring_buf *r, const uint8_t *src, uint64_t src_len)
+{
+    return wq_ring_buf_put_n(r->head, r->buf, r->buf_len, src, src_len);
+}
+/* How many bytes came out, into the first of out: the smaller of out_len and what it held. WQ_EINVAL. */
+static inline int64_t wq_k_ring_buf_get_n(struct wq_ring_buf *r, uint8_t *out, uint64_t out_len)
+{
+    return wq_ring_buf_get_n(r->head, r->buf, r->buf_len, out, out_len);
+}
+/* WQ_OK: *value is the byte at idx, 0 being the first; WQ_EINVAL: it holds no more than idx, or malformed. */
+static inline int32_t wq_k_ring_buf_peek_at(const struct wq_ring_buf *r, uint32_t idx, uint8_t *value)
+{
+    return wq_ring_buf_peek_at(r->head, r->buf, r->buf_len, idx, value);
+}
+/* WQ_OK: it is empty, and its first byte will stand at the buffer's start; WQ_EINVAL. */
+static inline int32_t wq_k_ring_buf_reset(struct wq_ring_buf *r)
+{
+    return wq_ring_buf_reset(r->head, r->buf, r->buf_len);
+}
+/* How many bytes it holds, has free, can hold; where the first stands, and where the next will go. WQ_EINVAL. */
+static inline int64_t wq_k_ring_buf_size_get(const struct wq_ring_buf *r)
+{
+    return wq_ring_buf_size_get(r->head, r->buf, r->buf_len);
+}
+static inline int64_t wq_k_ring_buf_space_get(const struct wq_ring_buf *r)
+{
+    return wq_ring_buf_space_get(r->head, r->buf, r->buf_len);
+}
+static inline int64_t wq_k_ring_buf_capacity_get(const struct wq_ring_buf *r)
+{
+    return wq_ring_buf_capacity_get(r->head, r->buf, r->buf_len);
+}
+static inline int64_t wq_k_ring_buf_head_get(const struct wq_ring_buf *r)
+{
+    return wq_ring_buf_head_get(r->head, r->buf, r->buf_len);
+}
+static inline int64_t wq_k_ring_buf_tail_get(const struct wq_ring_buf *r)
+{
+    return wq_ring_buf_tail_get(r->head, r->buf, r->buf_len);
+}
+/* 1, 0; WQ_EINVAL. */
+static inline int32_t wq_k_ring_buf_is_empty(const struct wq_ring_buf *r)
+{
+    return wq_ring_buf_is_empty(r->head, r->buf, r->buf_len);
+}
+static inline int32_t wq_k_ring_buf_is_full(const struct wq_ring_buf *r)
+{
+    return wq_ring_buf_is_full(r->head, r->buf, r->buf_len);
+}
+
+/* ---- Message queue ------------------------------------------------------------------------ */
+
+/* Messages of one size, first in first out, in a buffer that the caller lends: its first max_msgs * msg_size bytes. */
+struct wq_msgq {
+    uint32_t head[4]; /* how many messages it can hold, the slot of the first, how many it holds, a message's size */
+    uint8_t *buf;
+    uint64_t buf_len;
+};
+
+/* What a put is to do: store the message; hand it to the first reader that waits, and no number changes; wait. */
+enum wq_put { WQ_PUT_STORE = 0, WQ_PUT_WAKE_READER = 1, WQ_PUT_PEND = 2 };
+
+/* What a get is to do: read the first message; read it, and then store the message of the first writer that waits
+ * (a put of its own); wait. */
+enum wq_get { WQ_GET_READ = 0, WQ_GET_WAKE_WRITER = 1, WQ_GET_PEND = 2 };
+
+int32_t wq_msgq_init(uint32_t *head, const uint8_t *buf, uint64_t buf_len, uint32_t msg_size, uint32_t max_msgs);
+int32_t wq_msgq_put(uint32_t *head, uint8_t *buf, uint64_t buf_len, const uint8_t *msg, uint64_t msg_len);
+int32_t wq_msgq_put_front(uint32_t *head, uint8_t *buf, uint64_t buf_len, const uint8_t *msg, uint64_t msg_len);
+int32_t wq_msgq_get(uint32_t *head, const uint8_t *buf, uint64_t buf_len, uint8_t *out, uint64_t out_len);
+int32_t wq_msgq_peek_at(const uint32_t *head, const uint8_t *buf, uint64_t buf_len, uint32_t idx, uint8_t *out,
+                        uint64_t out_len);
+int64_t wq_msgq_purge(uint32_t *head, const uint8_t *buf, uint64_t buf_len);
+int64_t wq_msgq_num_free_get(const uint32_t *head, const uint8_t *buf, uint64_t buf_len);
+int64_t wq_msgq_num_used_get(const uint32_t *head, const uint8_t *buf, uint64_t buf_len);
+int64_t wq_msgq_msg_size_get(const uint32_t *head, const uint8_t *buf, uint64_t buf_len);
+int64_t wq_msgq_max_msgs_get(const uint32_t *head, const uint8_t *buf, uint64_t buf_len);
+int64_t wq_msgq_read_idx_get(const uint32_t *head, const uint8_t *buf, uint64_t buf_len);
+int64_t wq_msgq_write_idx_get(const uint32_t *head, const uint8_t *buf, uint64_t buf_len);
+int32_t wq_msgq_is_full(const uint32_t *head, const uint8_t *buf, uint64_t buf_len);
+int32_t wq_msgq_is_empty(const uint32_t *head, const uint8_t *buf, uint64_t buf_len);
+
+/* On plain numbers: what put, get, put_front and peek_at would do, and the new numbers. They are written unless the
+ * answer is below 0. WQ_EINVAL: no room for a message at all, an index or a count that is too large, a reader that
+ * waits while there are messages (handing it a new one would overtake them), a writer that waits while there is room. */
+int32_t wq_msgq_put_decide(uint32_t write_idx, uint32_t used_msgs, uint32_t max_msgs, bool has_waiter, bool is_no_wait,
+                           uint32_t *new_write_idx, uint32_t *new_used); /* enum wq_put; WQ_ENOMSG, WQ_EINVAL */
+int32_t wq_msgq_get_decide(uint32_t read_idx, uint32_t used_msgs, uint32_t max_msgs, bool has_waiter, bool is_no_wait,
+                           uint32_t *new_read_idx, uint32_t *new_used); /* enum wq_get; WQ_ENOMSG, WQ_EINVAL */
+int32_t wq_msgq_put_front_decide(uint32_t read_idx, uint32_t used_msgs, uint32_t max_msgs, uint32_t *new_read_idx,
+                                 uint32_t *new_used); /* WQ_OK; WQ_ENOMSG, WQ_EINVAL */
+int32_t wq_msgq_peek_at_decide(uint32_t read_idx, uint32_t used_msgs, uint32_t max_msgs, uint32_t idx,
+                               uint32_t *slot_idx); /* WQ_OK; WQ_ENOMSG, WQ_EINVAL */
+
+/* WQ_OK: it is empty; WQ_EINVAL: a size or a number of 0, a product above 2^32 - 1 or above the buffer's length, and q
+ * stays. */
+static inline int32_t wq_k_msgq_init(struct wq_msgq *q, uint8_t *buf, uint64_t buf_len, uint32_t msg_size,
+                                     uint32_t max_msgs)
+{
+    int32_t code = wq_msgq_init(q->head, buf, buf_len, msg_size, max_msgs);
+    if (code == WQ_OK) {
+        q->buf = buf;
+        q->buf_len = buf_len;
+    }
+    return code;
+}
+/* WQ_OK: the message is behind, or before, those that it held; WQ_EINVAL, also for a message of another length;
+ * WQ_ENOMSG: it is full. */
+static inline int32_t wq_k_msgq_put(struct wq_msgq *q, const uint8_t *msg, uint64_t msg_len)
+{
+    return wq_msgq_put(q->head, q->buf, q->buf_len, msg, msg_len);
+}
+static inline int32_t wq_k_msgq_put_front(struct wq_msgq *q, const uint8_t *msg, uint64_t msg_len)
+{
+    return wq_msgq_put_front(q->head, q->buf, q->buf_len, msg, msg_len);
+}
+/* WQ_OK: out is the first message, which is gone; WQ_EINVAL, also for an out of another length; WQ_ENOMSG: it is empty. */
+static inline int32_t wq_k_msgq_get(struct wq_msgq *q, uint8_t *out, uint64_t out_len)
+{
+    return wq_msgq_get(q->head, q->buf, q->buf_len, out, out_len);
+}
+/* WQ_OK: out is the message at idx, 0 being the first; WQ_EINVAL as for get; WQ_ENOMSG: it holds no more than idx. */
+static inline int32_t wq_k_msgq_peek_at(const struct wq_msgq *q, uint32_t idx, uint8_t *out, uint64_t out_len)
+{
+    return wq_msgq_peek_at(q->head, q->buf, q->buf_len, idx, out, out_len);
+}
+/* How many messages it held; it is empty. WQ_EINVAL. */
+static inline int64_t wq_k_msgq_purge(struct wq_msgq *q) { return wq_msgq_purge(q->head, q->buf, q->buf_len); }
+/* The number; WQ_EINVAL. */
+static inline int64_t wq_k_msgq_num_free_get(const struct wq_msgq *q)
+{
+    return wq_msgq_num_free_get(q->head, q->buf, q->buf_len);
+}
+static inline int64_t wq_k_msgq_num_used_get(const struct wq_msgq *q)
+{
+    return wq_msgq_num_used_get(q->head, q->buf, q->buf_len);
+}
+static inline int64_t wq_k_msgq_msg_size_get(const struct wq_msgq *q)
+{
+    return wq_msgq_msg_size_get(q->head, q->buf, q->buf_len);
+}
+static inline int64_t wq_k_msgq_max_msgs_get(const struct wq_msgq *q)
+{
+    return wq_msgq_max_msgs_get(q->head, q->buf, q->buf_len);
+}
+static inline int64_t wq_k_msgq_read_idx_get(const struct wq_msgq *q)
+{
+    return wq_msgq_read_idx_get(q->head, q->buf, q->buf_len);
+}
+static inline int64_t wq_k_msgq_write_idx_get(const struct wq_msgq *q)
+{
+    return wq_msgq_write_idx_get(q->head, q->buf, q->buf_len);
+}
+/* 1, 0; WQ_EINVAL. */
+static inline int32_t wq_k_msgq_is_full(const struct wq_msgq *q) { return wq_msgq_is_full(q->head, q->buf, q->buf_len); }
+static inline int32_t wq_k_msgq_is_empty(const struct wq_msgq *q)
+{
+    return wq_msgq_is_empty(q->head, q->buf, q->buf_len);
+}
+
+/* ---- Pipe --------------------------------------------------------------------------------- */
+
+/* A ring of bytes that can be closed and reset. */
+struct wq_pipe {
+    uint32_t head[4]; /* size, the place of the first byte, how many bytes it holds, flags */
+    uint8_t *buf;
+    uint64_t buf_len;
+};
+
+#define WQ_FLAG_OPEN 1u
+#define WQ_FLAG_RESET 2u
+
+/* What a write is to do: store the bytes; hand them to the first reader that waits, and no number changes; wait. */
+enum wq_write { WQ_WRITE_OK = 0, WQ_WRITE_WAKE_READER = 1, WQ_WRITE_PEND = 2 };
+
+/* What a read is to do: take the bytes; take them, and then let the first writer that waits write; wait. */
+enum wq_read { WQ_READ_OK = 0, WQ_READ_WAKE_WRITER = 1, WQ_READ_PEND = 2 };
+
+int32_t wq_pipe_init(uint32_t *head, const uint8_t *buf, uint64_t buf_len, uint32_t size);
+int64_t wq_pipe_write(uint32_t *head, uint8_t *buf, uint64_t buf_len, const uint8_t *src, uint64_t src_len);
+int64_t wq_pipe_read(uint32_t *head, const uint8_t *buf, uint64_t buf_len, uint8_t *out, uint64_t out_len);
+int32_t wq_pipe_reset(uint32_t *head, const uint8_t *buf, uint64_t buf_len);
+int32_t wq_pipe_close(uint32_t *head, const uint8_t *buf, uint64_t buf_len);
+int32_t wq_pipe_clear_reset(uint32_t *head, const uint8_t *buf, uint64_t buf_len);
+int64_t wq_pipe_space_get(const uint32_t *head, const uint8_t *buf, uint64_t buf_len);
+int64_t wq_pipe_data_get(const uint32_t *head, const uint8_t *buf, uint64_t buf_len);
+int64_t wq_pipe_size(const uint32_t *head, const uint8_t *buf, uint64_t buf_len);
+int32_t wq_pipe_is_empty(const uint32_t *head, const uint8_t *buf, uint64_t buf_len);
+int32_t wq_pipe_is_full(const uint32_t *head, const uint8_t *buf, uint64_t buf_len);
+int32_t wq_pipe_is_open(const uint32_t *head, const uint8_t *buf, uint64_t buf_len);
+int32_t wq_pipe_is_resetting(const uint32_t *head, const uint8_t *buf, uint64_t buf_len);
+
+/* On plain numbers: what write and read would do, how many bytes move, and how many the pipe then holds. They are
+ * written unless the answer is below 0. Where the pipe would answer WQ_EAGAIN, the answer is to wait. WQ_EINVAL: a size
+ * of 0, a number above it, flags above 3, a reader that waits while there are bytes, a writer that waits while there is
+ * room. With a reader that waits, request_len is to be at most what that reader asks for. */
+int32_t wq_pipe_write_decide(uint32_t used, uint32_t size, uint32_t flags, uint32_t request_len, bool has_reader,
+                             uint32_t *actual_bytes, uint32_t *new_used); /* enum wq_write; refusals as write */
+int32_t wq_pipe_read_decide(uint32_t used, uint32_t size, uint32_t flags, uint32_t request_len, bool has_writer,
+                            uint32_t *actual_bytes, uint32_t *new_used); /* enum wq_read; refusals as read */
+
+/* WQ_OK: it is open and empty; WQ_EINVAL: size 0, or above the buffer's length, and p stays. */
+static inline int32_t wq_k_pipe_init(struct wq_pipe *p, uint8_t *buf, uint64_t buf_len, uint32_t size)
+{
+    int32_t code = wq_pipe_init(p->head, buf, buf_len, size);
+    if (code == WQ_OK) {
+        p->buf = buf;
+        p->buf_len = buf_len;
+    }
+    return code;
+}
+/* How many bytes went in, the first of src: the smaller of src_len and what is free. Refusals, in this order: WQ_EINVAL;
+ * WQ_ECANCELED: resetting; WQ_EPIPE: closed; WQ_ENOMSG: src_len is 0; WQ_EAGAIN: full. */
+static inline int64_t wq_k_pipe_write(struct wq_pipe *p, const uint8_t *src, uint64_t src_len)
+{
+    return wq_pipe_write(p->head, p->buf, p->buf_len, src, src_len);
+}
+/* How many bytes came out, into the first of out: the smaller of out_len and what it held. Refusals, in this order:
+ * WQ_EINVAL; WQ_ECANCELED: resetting; WQ_ENOMSG: out_len is 0; if empty, WQ_EPIPE: closed, or WQ_EAGAIN: open. */
+static inline int64_t wq_k_pipe_read(struct wq_pipe *p, uint8_t *out, uint64_t out_len)
+{
+    return wq_pipe_read(p->head, p->buf, p->buf_len, out, out_len);
+}
+/* WQ_OK: it is empty and resetting; open or closed as it was. WQ_EINVAL. */
+static inline int32_t wq_k_pipe_reset(struct wq_pipe *p) { return wq_pipe_reset(p->head, p->buf, p->buf_len); }
+/* WQ_OK: it is closed and not resetting; its bytes stay and can be read. WQ_EINVAL. */
+static inline int32_t wq_k_pipe_close(struct wq_pipe *p) { return wq_pipe_close(p->head, p->buf, p->buf_len); }
+/* WQ_OK: it is not resetting. WQ_EINVAL. */
+static inline int32_t wq_k_pipe_clear_reset(struct wq_pipe *p)
+{
+    return wq_pipe_clear_reset(p->head, p->buf, p->buf_len);
+}
+/* The number; WQ_EINVAL. */
+static inline int64_t wq_k_pipe_space_get(const struct wq_pipe *p) { return wq_pipe_space_get(p->head, p->buf, p->buf_len); }
+static inline int64_t wq_k_pipe_data_get(const struct wq_pipe *p) { return wq_pipe_data_get(p->head, p->buf, p->buf_len); }
+static inline int64_t wq_k_pipe_size(const struct wq_pipe *p) { return wq_pipe_size(p->head, p->buf, p->buf_len); }
+/* 1, 0; WQ_EINVAL. */
+static inline int32_t wq_k_pipe_is_empty(const struct wq_pipe *p) { return wq_pipe_is_empty(p->head, p->buf, p->buf_len); }
+static inline int32_t wq_k_pipe_is_full(const struct wq_pipe *p) { return wq_pipe_is_full(p->head, p->buf, p->buf_len); }
+static inline int32_t wq_k_pipe_is_open(const struct wq_pipe *p) { return wq_pipe_is_open(p->head, p->buf, p->buf_len); }
+static inline int32_t wq_k_pipe_is_resetting(const struct wq_pipe *p)
+{
+    return wq_pipe_is_resetting(p->head, p->buf, p->buf_len);
+}
+
+/* ---- Stack -------------------------------------------------------------------------------- */
+
+/* Words, last in first out, in memory that the caller lends: its first `capacity` words. */
+struct wq_stack {
+    uint32_t head[2]; /* how many words it can hold, how many it holds */
+    uint64_t *word;
+    uint64_t word_len;
+};
+
+/* What a push is to do: store the word; hand it to the first that waits, and no number changes. */
+enum wq_push { WQ_PUSH_STORE = 0, WQ_PUSH_WAKE_WAITER = 1 };
+
+int32_t wq_stack_init(uint32_t *head, const uint64_t *word, uint64_t word_len, uint32_t capacity);
+int32_t wq_stack_push(uint32_t *head, uint64_t *word, uint64_t word_len, uint64_t data);
+int32_t wq_stack_pop(uint32_t *head, const uint64_t *word, uint64_t word_len, uint64_t *data);
+int64_t wq_stack_num_free(const uint32_t *head, const uint64_t *word, uint64_t word_len);
+int64_t wq_stack_num_used(const uint32_t *head, const uint64_t *word, uint64_t word_len);
+int64_t wq_stack_capacity(const uint32_t *head, const uint64_t *word, uint64_t word_len);
+int32_t wq_stack_is_full(const uint32_t *head, const uint64_t *word, uint64_t word_len);
+int32_t wq_stack_is_empty(const uint32_t *head, const uint64_t *word, uint64_t word_len);
+
+/* On plain numbers: what push and pop would do, and the new count, which is written unless the answer is below 0.
+ * For push, WQ_EINVAL: capacity 0, a count above it, or somebody waits while there are words. */
+int32_t wq_stack_push_decide(uint32_t count, uint32_t capacity, bool has_waiter,
+                             uint32_t *new_count); /* enum wq_push; WQ_ENOMEM, WQ_EINVAL */
+int32_t wq_stack_pop_decide(uint32_t count, bool is_no_wait, uint32_t *new_count); /* WQ_OK, WQ_WAITS; WQ_EBUSY */
+
+/* WQ_OK: it is empty; WQ_EINVAL: capacity 0, or above the memory's length, and s stays. */
+static inline int32_t wq_k_stack_init(struct wq_stack *s, uint64_t *word, uint64_t word_len, uint32_t capacity)
+{
+    int32_t code = wq_stack_init(s->head, word, word_len, capacity);
+    if (code == WQ_OK) {
+        s->word = word;
+        s->word_len = word_len;
+    }
+    return code;
+}
+/* WQ_OK: data is on top; WQ_ENOMEM: it is full; WQ_EINVAL. */
+static inline int32_t wq_k_stack_push(struct wq_stack *s, uint64_t data)
+{
+    return wq_stack_push(s->head, s->word, s->word_len, data);
+}
+/* WQ_OK: *data was on top; WQ_EBUSY: it is empty; WQ_EINVAL. *data is written on WQ_OK only. */
+static inline int32_t wq_k_stack_pop(struct wq_stack *s, uint64_t *data)
+{
+    return wq_stack_pop(s->head, s->word, s->word_len, data);
+}
+/* The number; WQ_EINVAL. */
+static inline int64_t wq_k_stack_num_free(const struct wq_stack *s)
+{
+    return wq_stack_num_free(s->head, s->word, s->word_len);
+}
+static inline int64_t wq_k_stack_num_used(const struct wq_stack *s)
+{
+    return wq_stack_num_used(s->head, s->word, s->word_len);
+}
+static inline int64_t wq_k_stack_capacity(const struct wq_stack *s)
+{
+    return wq_stack_capacity(s->head, s->word, s->word_len);
+}
+/* 1, 0; WQ_EINVAL. */
+static inline int32_t wq_k_stack_is_full(const struct wq_stack *s) { return wq_stack_is_full(s->head, s->word, s->word_len); }
+static inline int32_t wq_k_stack_is_empty(const struct wq_stack *s)
+{
+    return wq_stack_is_empty(s->head, s->word, s->word_len);
+}
+
+/* ---- Memory slab -------------------------------------------------------------------------- */
+
+/* Blocks of one size. Beside the blocks the caller lends a word for each: link[i] is 0 exactly if block i is out. No
+ * block is handed out twice, whatever the links hold; links that were overwritten can leave a slab that answers WQ_EINVAL
+ * from then on. The blocks themselves are never touched: block i starts at i times the size. */
+struct wq_mem_slab {
+    uint32_t head[4]; /* how many blocks, a block's size, how many are out, the block that is given next */
+    uint32_t *link;
+    uint64_t link_len;
+};
+
+/* What a free is to do: take the block back; hand it to the first that waits, and no number changes. */
+enum wq_free { WQ_FREE_FREE = 0, WQ_FREE_WAKE_THREAD = 1 };
+
+int32_t wq_mem_slab_init(uint32_t *head, uint32_t *link, uint64_t link_len, uint32_t block_size, uint32_t num_blocks);
+int64_t wq_mem_slab_alloc(uint32_t *head, uint32_t *link, uint64_t link_len);
+int32_t wq_mem_slab_free(uint32_t *head, uint32_t *link, uint64_t link_len, uint32_t block);
+int64_t wq_mem_slab_num_used_get(const uint32_t *head, const uint32_t *link, uint64_t link_len);
+int64_t wq_mem_slab_num_free_get(const uint32_t *head, const uint32_t *link, uint64_t link_len);
+int64_t wq_mem_slab_num_blocks_get(const uint32_t *head, const uint32_t *link, uint64_t link_len);
+int64_t wq_mem_slab_block_size_get(const uint32_t *head, const uint32_t *link, uint64_t link_len);
+int32_t wq_mem_slab_is_full(const uint32_t *head, const uint32_t *link, uint64_t link_len);
+int32_t wq_mem_slab_is_empty(const uint32_t *head, const uint32_t *link, uint64_t link_len);
+
+/* On plain numbers: what alloc and free would do, and how many are then out, which is written unless the answer is
+ * below 0. */
+int32_t wq_mem_slab_alloc_decide(uint32_t num_used, uint32_t num_blocks, bool is_no_wait,
+                                 uint32_t *new_used); /* WQ_OK, WQ_WAITS; WQ_ENOMEM; WQ_EINVAL: no blocks, or more out */
+int32_t wq_mem_slab_free_decide(uint32_t num_used, bool has_waiter,
+                                uint32_t *new_used); /* enum wq_free; WQ_EINVAL: nothing is out */
+
+/* WQ_OK: all blocks are free; WQ_EINVAL: a size or a number of 0, or fewer links than blocks, and all stays. */
+static inline int32_t wq_k_mem_slab_init(struct wq_mem_slab *s, uint32_t *link, uint64_t link_len, uint32_t block_size,
+                                         uint32_t num_blocks)
+{
+    int32_t code = wq_mem_slab_init(s->head, link, link_len, block_size, num_blocks);
+    if (code == WQ_OK) {
+        s->link = link;
+        s->link_len = link_len;
+    }
+    return code;
+}
+/* The number of a block that was not out, from 0 on, which is out now; WQ_ENOMEM: all are out; WQ_EINVAL. */
+static inline int64_t wq_k_mem_slab_alloc(struct wq_mem_slab *s) { return wq_mem_slab_alloc(s->head, s->link, s->link_len); }
+/* WQ_OK: the block was out and is not; WQ_EINVAL: it was not out, there is no such block, or malformed. */
+static inline int32_t wq_k_mem_slab_free(struct wq_mem_slab *s, uint32_t block)
+{
+    return wq_mem_slab_free(s->head, s->link, s->link_len, block);
+}
+/* How many are out, are free, there are; a block's size. WQ_EINVAL. */
+static inline int64_t wq_k_mem_slab_num_used_get(const struct wq_mem_slab *s)
+{
+    return wq_mem_slab_num_used_get(s->head, s->link, s->link_len);
+}
+static inline int64_t wq_k_mem_slab_num_free_get(const struct wq_mem_slab *s)
+{
+    return wq_mem_slab_num_free_get(s->head, s->link, s->link_len);
+}
+static inline int64_t wq_k_mem_slab_num_blocks_get(const struct wq_mem_slab *s)
+{
+    return wq_mem_slab_num_blocks_get(s->head, s->link, s->link_len);
+}
+static inline int64_t wq_k_mem_slab_block_size_get(const struct wq_mem_slab *s)
+{
+    return wq_mem_slab_block_size_get(s->head, s->link, s->link_len);
+}
+/* 1, 0; WQ_EINVAL. Full: all blocks are out; empty: none is. */
+static inline int32_t wq_k_mem_slab_is_full(const struct wq_mem_slab *s)
+{
+    return wq_mem_slab_is_full(s->head, s->link, s->link_len);
+}
+static inline int32_t wq_k_mem_slab_is_empty(const struct wq_mem_slab *s)
+{
+    return wq_mem_slab_is_empty(s->head, s->link, s->link_len);
+}
 
 #ifdef __cplusplus
 }

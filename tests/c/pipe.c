@@ -7,7 +7,7 @@
 #include "check.h"
 
 enum { SIZE, START, USED, FLAGS };
-enum { CLOSED = 0, OPEN = WQ_PIPE_FLAG_OPEN, RESET = WQ_PIPE_FLAG_RESET, ALL = OPEN | RESET };
+enum { CLOSED = 0, OPEN = WQ_FLAG_OPEN, RESET = WQ_FLAG_RESET, ALL = OPEN | RESET };
 
 static void made(uint32_t size) { EQUAL(wq_k_pipe_init(&m.pipe, m.buf, ROOM, size), WQ_OK); }
 
