@@ -12,46 +12,39 @@ use lib.Seq.{getD-take, take-set-lt, drop-set-lt}
 use borrow.Author.Tests.{lt-ltb, le-ltb, le-leb, lt-leb, ltb-true, eq-eqb, ne-eqb}
 use Rattle.thread.specs.Code.{ok, enomem, einval}
 use Rattle.store.specs.Store.{Reply, refuse, accept, answer, settled, Becomes}
-use Rattle.store.proofs.Laws.{did-no, did-yes}
+use Rattle.store.proofs.Laws.{decides, declines, did-no, did-yes}
 use Rattle.mem_slab.specs.Slab.{Slab, isOut, waits, woke, leads, alloc, free}
-use Rattle.mem_slab.specs.Post.{slab, place, fit, led, isFull, isEmpty, Allocs, Frees, Decided, AllocDecided, FreeDecided}
+use Rattle.mem_slab.specs.Post.{slab, place, fit, led, isFull, isEmpty, Allocs, Frees, AllocDecided, FreeDecided}
 use Rattle.mem_slab.proofs.Memory.{both, Sound, sound-is, Fit, fit-is, is-fit, leads-is, next-link, unfit, Four, four}
 
 -- on plain numbers
-module _ {y : Reply ℕ} {m : ℕ} where
-  decided : {n : ℕ} {r : ℤ} → y ≡ accept n r → Decided y m r n
-  decided e = record { code = sym (ap answer e); number = sym (ap (λ (x : Reply ℕ). settled (λ k. k) x m) e) }
-
-  undecided : {r : ℤ} → y ≡ refuse r → Decided y m r m
-  undecided e = record { code = sym (ap answer e); number = sym (ap (λ (x : Reply ℕ). settled (λ k. k) x m) e) }
-
 module _ (u n m : ℕ) where
   pub alloc-none : (w : Bool) → n ≡ 0 → AllocDecided u n w m einval m
-  alloc-none w h = undecided (rw (le-ltb 0 n (omega arith)))
+  alloc-none w h = declines m (rw (le-ltb 0 n (omega arith)))
 
   module _ (b : 0 < n) where
     pub alloc-one : (w : Bool) → u < n → AllocDecided u n w m ok (u + 1)
-    alloc-one w h = decided (rw (lt-ltb 0 n b, le-leb u n (omega arith), lt-ltb u n h, add-one u))
+    alloc-one w h = decides m (rw (lt-ltb 0 n b, le-leb u n (omega arith), lt-ltb u n h, add-one u))
 
     pub alloc-over : (w : Bool) → n < u → AllocDecided u n w m einval m
-    alloc-over w h = undecided (rw (lt-ltb 0 n b, lt-leb u n h))
+    alloc-over w h = declines m (rw (lt-ltb 0 n b, lt-leb u n h))
 
     pub alloc-refused : u ≡ n → AllocDecided u n true m enomem m
-    alloc-refused h = undecided (rw (lt-ltb 0 n b, le-leb u n (omega arith), le-ltb u n (omega arith)))
+    alloc-refused h = declines m (rw (lt-ltb 0 n b, le-leb u n (omega arith), le-ltb u n (omega arith)))
 
     pub alloc-waits : u ≡ n → AllocDecided u n false m waits u
-    alloc-waits h = decided (rw (lt-ltb 0 n b, le-leb u n (omega arith), le-ltb u n (omega arith)))
+    alloc-waits h = decides m (rw (lt-ltb 0 n b, le-leb u n (omega arith), le-ltb u n (omega arith)))
 
 module _ (u m : ℕ) where
   pub free-none : (w : Bool) → u ≡ 0 → FreeDecided u w m einval m
-  free-none w h = undecided (rw (eq-eqb u 0 h))
+  free-none w h = declines m (rw (eq-eqb u 0 h))
 
   module _ (b : u ≡ 0 → ⊥) where
     pub free-woke : FreeDecided u true m woke u
-    free-woke = decided (rw (ne-eqb u 0 b))
+    free-woke = decides m (rw (ne-eqb u 0 b))
 
     pub free-one : FreeDecided u false m ok (u - 1)
-    free-one = decided (rw (ne-eqb u 0 b))
+    free-one = decides m (rw (ne-eqb u 0 b))
 
 -- the header's last two words and one link are written
 stored : (a z u x : ℕ) (t l : List ℕ) → Sound (a ∷ z ∷ u ∷ x ∷ t) l → (u' x' i v : ℕ) → u' ≤ a → x' < a → i < a

@@ -8,7 +8,7 @@ use lib.Dec.{ltb, leb, eqb}
 use lib.IntN.{ℤ, pos}
 use lib.ListN.{length, getD, take}
 use Rattle.thread.specs.Code.{einval}
-use Rattle.store.specs.Store.{Reply, refuse, answer, settled, Place, Did, looks, Started}
+use Rattle.store.specs.Store.{Reply, refuse, Decided, Place, Did, looks, Started}
 use Rattle.mem_slab.specs.Slab.{Slab, sound, leads, allocs, frees, alloc, free, fresh}
 
 abbrev pub slab : List ℕ → List ℕ → Slab
@@ -52,11 +52,6 @@ isEmpty s = truth (eqb (s .used) 0)
 -- a new slab, of some blocks of some size, each with a link
 abbrev pub Starts : ℕ → ℕ → List ℕ → List ℕ → ℤ → List ℕ → List ℕ → Type 0
 Starts size blocks h l = Started place (ltb 0 size && (ltb 0 blocks && leb blocks (length l))) (fresh size blocks) h l
-
--- a decision: the answer, and the number m, which stays if it is a refusal
-pub record Decided (y : Reply ℕ) (m : ℕ) (r : ℤ) (m' : ℕ) : Type 0 where
-  pub code : r ≡ answer y
-  pub number : m' ≡ settled (λ n. n) y m
 
 abbrev pub AllocDecided : ℕ → ℕ → Bool → ℕ → ℤ → ℕ → Type 0
 AllocDecided used blocks noWait = Decided (cond (ltb 0 blocks && leb used blocks) (allocs used blocks noWait) (refuse einval))

@@ -15,8 +15,10 @@ ghost use Rattle.mem_slab.specs.Post.{slab, fit, Allocs, Frees, sees, is
 // What alloc_decide answers one that is to wait.
 pub const WAITS: i32 = 1;
 
-// What free_decide answers if the block goes to one that waits.
-pub const WOKE: i32 = 1;
+// What a free is to do, in the order of Gale's FreeDecision.
+pub const FREE: i32 = 0;
+
+pub const WAKE_THREAD: i32 = 1;
 
 // Whether the memory is as it should be.
 fn formed(h: &[u32], l: &[u32]) -> bool
@@ -71,7 +73,7 @@ pub fn alloc_decide(num_used: u32, num_blocks: u32, is_no_wait: bool, new_used: 
     WAITS
 }
 
-// OK: one fewer is out; WOKE: as many are, and one that waits has the block; EINVAL: none is out.
+// FREE: one fewer is out; WAKE_THREAD: as many are, and one that waits has the block; EINVAL: none is out.
 pub fn free_decide(num_used: u32, has_waiter: bool, new_used: &mut u32) -> i32
     ensures { λ r. ⌜ FreeDecided «num_used» «has_waiter» (now («new_used» .entry)) r (now («new_used» .exit)) ⌝ }
 {
@@ -80,10 +82,10 @@ pub fn free_decide(num_used: u32, has_waiter: bool, new_used: &mut u32) -> i32
     }
     if has_waiter {
         *new_used = num_used;
-        return WOKE;
+        return WAKE_THREAD;
     }
     *new_used = num_used - 1;
-    OK
+    FREE
 }
 
 // OK.

@@ -10,7 +10,7 @@ use borrow.Author.Tests.{ltb-true, ltb-false, lt-ltb, le-leb}
 use Rattle.seq.specs.List.{any}
 use Rattle.thread.specs.Code.{ok, ebusy}
 use Rattle.store.specs.Store.{answer, settled}
-use Rattle.stack.specs.Stack.{Stack, handsOver, waits, right, pushes, pops, push}
+use Rattle.stack.specs.Stack.{Stack, wakesWaiter, waits, right, pushes, pops, push}
 use Rattle.stack.specs.History.{after, depth}
 use Rattle.stack.specs.HandOver.{Waited, Event, put, get, step, out, calls, handedOut, Decides}
 use Rattle.stack.proofs.Calls.{mk, push-some, push-none, pop-some}
@@ -67,12 +67,12 @@ module _ (c n : ℕ) (p q : List ℕ) (a : 0 < c) where
         go false e = rw (e, lt-ltb 0 c a) (le-leb (length l) c b)
 
     puts : (x : ℕ)
-        → (answer (pushes (length l) c (ltb 0 n)) ≡ cond (ltb 0 n) handsOver (answer (push x (mk c l p))))
+        → (answer (pushes (length l) c (ltb 0 n)) ≡ cond (ltb 0 n) wakesWaiter (answer (push x (mk c l p))))
         × (settled (λ m. m) (pushes (length l) c (ltb 0 n)) (length l) ≡ depth (step (on l) (put x) .stack))
     puts x = go (ltb 0 n) (ltb (length l) c) refl refl
       where
         go : (d f : Bool) → ltb 0 n ≡ d → ltb (length l) c ≡ f
-            → (answer (pushes (length l) c (ltb 0 n)) ≡ cond (ltb 0 n) handsOver (answer (push x (mk c l p))))
+            → (answer (pushes (length l) c (ltb 0 n)) ≡ cond (ltb 0 n) wakesWaiter (answer (push x (mk c l p))))
             × (settled (λ m. m) (pushes (length l) c (ltb 0 n)) (length l) ≡ depth (step (on l) (put x) .stack))
         go true f e g = rw e (refl, refl)
         go false true e g = rw (e, g) (refl, refl)

@@ -6,7 +6,7 @@ use native.Mathlib.Omega.{arith}
 use lib.IntN.{pos}
 use Rattle.thread.specs.Code.{ok, enomem, ebusy, einval}
 use Rattle.store.specs.Store.{accept, refuse, answer, looks, handed}
-use Rattle.stack.specs.Stack.{Stack, handsOver, waits, pops, pushDecide, pop, popped, used, free, full, empty, fresh, may}
+use Rattle.stack.specs.Stack.{Stack, wakesWaiter, waits, pops, pushDecide, pop, popped, used, free, full, empty, fresh, may}
 use Rattle.stack.specs.Post.{place}
 use Rattle.stack.specs.History.{Call, pushing, popping, does, after, Lies, pushed, stayed, Made, begun, made}
 use Rattle.stack.specs.HandOver.{Waited, Event, put, get, ends, allCalls, allOut}
@@ -48,7 +48,7 @@ pub made-one : Made (2 ∷ 1 ∷ []) (5 ∷ 0 ∷ 9 ∷ []) (pushing 6 ∷ []) (
 made-one = made begun (answers.pushed (2 ∷ 1 ∷ []) (5 ∷ 0 ∷ 9 ∷ []) refl 6 (omega arith))
 
 -- on plain numbers
-pub decided-is : (pushDecide 0 2 true ≡ accept 0 handsOver) × (pushDecide 1 2 false ≡ accept 2 ok) × (pushDecide 2 2 false ≡ refuse enomem)
+pub decided-is : (pushDecide 0 2 true ≡ accept 0 wakesWaiter) × (pushDecide 1 2 false ≡ accept 2 ok) × (pushDecide 2 2 false ≡ refuse enomem)
     × (pushDecide 1 2 true ≡ refuse einval) × (pushDecide 3 2 false ≡ refuse einval) × (pushDecide 0 0 false ≡ refuse einval)
     × (pops 2 true ≡ accept 1 ok) × (pops 0 true ≡ refuse ebusy) × (pops 0 false ≡ accept 0 waits)
 decided-is = (refl, refl, refl, refl, refl, refl, refl, refl, refl)

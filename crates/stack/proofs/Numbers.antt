@@ -1,27 +1,12 @@
 -- What is decided on plain numbers. Assumes nothing.
-use mathlib.Core.Path.{_≡_, refl, subst}
+use mathlib.Core.Path.{_≡_}
 use mathlib.Core.Bool.{Bool, true, false}
 use Prim.Native.Nat.{ℕ, suc, _-_, _<_}
 use native.Mathlib.Omega.{arith}
-use lib.IntN.{ℤ}
 use borrow.Author.Tests.{lt-ltb, le-ltb, le-leb, lt-leb, eq-eqb, ne-eqb}
 use Rattle.thread.specs.Code.{ok, enomem, ebusy, einval}
-use Rattle.store.specs.Store.{Reply, refuse, accept}
-use Rattle.stack.specs.Stack.{handsOver, waits, pops, pushDecide}
-use Rattle.stack.specs.Post.{Decided}
-
-module _ {d : Reply ℕ} {a : ℤ} where
-  pub decides : {n : ℕ} (m : ℕ) → d ≡ accept n a → Decided d m a n
-  decides m e = rw e (record { code = refl; count = refl })
-
-  pub declines : (m : ℕ) → d ≡ refuse a → Decided d m a m
-  declines m e = rw e (record { code = refl; count = refl })
-
-  pub decided : {n m m' : ℕ} {r : ℤ} → d ≡ accept n a → Decided d m r m' → (r ≡ a) × (m' ≡ n)
-  decided {n} {m} {m'} {r} e x = let y = subst (λ (z : Reply ℕ). Decided z m r m') e x in (y .code, y .count)
-
-  pub declined : {m m' : ℕ} {r : ℤ} → d ≡ refuse a → Decided d m r m' → (r ≡ a) × (m' ≡ m)
-  declined {m} {m'} {r} e x = let y = subst (λ (z : Reply ℕ). Decided z m r m') e x in (y .code, y .count)
+use Rattle.store.specs.Store.{refuse, accept}
+use Rattle.stack.specs.Stack.{wakesWaiter, waits, pops, pushDecide}
 
 module _ (n c : ℕ) (b : Bool) where
   pub push-no-room : c ≡ 0 → pushDecide n c b ≡ refuse einval
@@ -31,7 +16,7 @@ module _ (n c : ℕ) (b : Bool) where
     pub push-held : b ≡ true → 0 < n → pushDecide n c b ≡ refuse einval
     push-held e k = rw (e, lt-ltb 0 c a, ne-eqb n 0 (λ z. absurd (omega arith)))
 
-    pub push-wakes : b ≡ true → n ≡ 0 → pushDecide n c b ≡ accept n handsOver
+    pub push-wakes : b ≡ true → n ≡ 0 → pushDecide n c b ≡ accept n wakesWaiter
     push-wakes e k = rw (e, lt-ltb 0 c a, eq-eqb n 0 k)
 
     pub push-over : b ≡ false → c < n → pushDecide n c b ≡ refuse einval

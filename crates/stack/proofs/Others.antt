@@ -13,15 +13,15 @@ use borrow.Author.Tests.{eqb-true, eqb-false, le-leb, ltb-true, ltb-false}
 use Rattle.seq.proofs.Order.{cond-same}
 use Rattle.thread.specs.Upstream.{Tells}
 use Rattle.thread.specs.Code.{einval, ok}
-use Rattle.store.specs.Store.{looks, Started}
-use Rattle.store.proofs.Laws.{looks-is, looks-bad, no-code}
+use Rattle.store.specs.Store.{Decided, looks, Started}
+use Rattle.store.proofs.Laws.{decided, declined, looks-is, looks-bad, no-code}
 use Rattle.stack.specs.Stack.{Stack, used, free, size, full, empty, right, pops, pushDecide, fresh, may}
-use Rattle.stack.specs.Post.{place, Decided}
+use Rattle.stack.specs.Post.{place}
 use Rattle.stack.specs.History.{depth}
 use Rattle.stack.specs.Upstream.{Inv, Housed, NumFree, NumUsed, IsFull, IsEmpty, Capacity, Init, PushDecide, PopDecide}
 use Rattle.stack.proofs.Memory.{formed}
 use Rattle.stack.proofs.Calls.{stores, takes}
-use Rattle.stack.proofs.Numbers.{decided, declined, push-wakes, push-full, push-stores, pop-takes, pop-busy, pop-pends}
+use Rattle.stack.proofs.Numbers.{push-wakes, push-full, push-stores, pop-takes, pop-busy, pop-pends}
 use Rattle.stack.proofs.Upstream.{inv-formed}
 
 -- upstream is lent no memory: here there has to be a header and memory for all

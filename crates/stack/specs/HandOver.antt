@@ -8,7 +8,7 @@ use lib.Dec.{ltb}
 use Rattle.seq.specs.List.{any}
 use Rattle.thread.specs.Code.{ok, ebusy}
 use Rattle.store.specs.Store.{answer, settled}
-use Rattle.stack.specs.Stack.{Stack, handsOver, waits, right, pops, pushDecide, push, popped}
+use Rattle.stack.specs.Stack.{Stack, wakesWaiter, waits, right, pops, pushDecide, push, popped}
 use Rattle.stack.specs.History.{Call, pushing, popping, next, after, depth}
 
 -- a stack, and how many wait for a word of it
@@ -64,7 +64,7 @@ pub record Decides (u : Waited) : Type 0 where
   -- the numbers are right
   pub numbers : right (depth (u .stack)) (u .stack .capacity) (ltb 0 (u .waiting)) ≡ true
   pub put-answer : (x : ℕ)
-      → answer (pushDecide (depth (u .stack)) (u .stack .capacity) (ltb 0 (u .waiting))) ≡ cond (ltb 0 (u .waiting)) handsOver (answer (push x (u .stack)))
+      → answer (pushDecide (depth (u .stack)) (u .stack .capacity) (ltb 0 (u .waiting))) ≡ cond (ltb 0 (u .waiting)) wakesWaiter (answer (push x (u .stack)))
   pub put-count : (x : ℕ)
       → settled (λ n. n) (pushDecide (depth (u .stack)) (u .stack .capacity) (ltb 0 (u .waiting))) (depth (u .stack)) ≡ depth (step u (put x) .stack)
   pub get-answer : (noWait : Bool) → answer (pops (depth (u .stack)) noWait) ≡ cond (any (u .stack .held)) ok (cond noWait ebusy waits)

@@ -1,13 +1,11 @@
 -- The stack in memory: h = how many words it can hold, how many it holds; w = the words, the last in behind the others.
-use mathlib.Core.Path.{_≡_}
 use mathlib.Core.Bool.{Bool, false, cond}
 use mathlib.Core.List.{List}
 use Prim.Native.Nat.{ℕ, _-_}
 use lib.Dec.{ltb, leb}
-use lib.IntN.{ℤ}
 use lib.ListN.{length, getD, take, drop}
 use Rattle.seq.specs.List.{back}
-use Rattle.store.specs.Store.{Reply, answer, settled, Place}
+use Rattle.store.specs.Store.{Place}
 use Rattle.stack.specs.Stack.{Stack}
 
 -- with n of the words w held
@@ -26,8 +24,3 @@ place =
       object = λ h w. stackOf (getD h 0 0) (getD h 1 0) w;
       formed = λ h w. cond (leb 2 (length h)) (sound (getD h 0 0) (getD h 1 0) w) false;
     }
-
--- on plain numbers: the answer is d's, and the count n is d's, or stays if that is a refusal
-pub record Decided (d : Reply ℕ) (n : ℕ) (r : ℤ) (n' : ℕ) : Type 0 where
-  pub code : r ≡ answer d
-  pub count : n' ≡ settled (λ m. m) d n

@@ -17,8 +17,8 @@ pub record Stack : Type 0 where
   pub spare : List ℕ
 
 -- a push answers: the word is for the first that waits
-abbrev pub handsOver : ℤ
-handsOver = pos 1
+abbrev pub wakesWaiter : ℤ
+wakesWaiter = pos 1
 
 -- a pop answers: the caller is to wait
 abbrev pub waits : ℤ
@@ -26,7 +26,7 @@ waits = pos 1
 
 -- what a push makes of the count. If somebody waits, the word goes there, and as many are held as before
 abbrev pub pushes : (count capacity : ℕ) → (waiting : Bool) → Reply ℕ
-pushes count capacity waiting = cond waiting (accept count handsOver) (cond (ltb count capacity) (accept (suc count) ok) (refuse enomem))
+pushes count capacity waiting = cond waiting (accept count wakesWaiter) (cond (ltb count capacity) (accept (suc count) ok) (refuse enomem))
 
 -- what a pop makes of the count. Where no word is held it is refused, unless the caller may wait
 abbrev pub pops : (count : ℕ) → (noWait : Bool) → Reply ℕ

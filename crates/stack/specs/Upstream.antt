@@ -9,7 +9,7 @@ use lib.ListN.{length, getD}
 use Rattle.thread.specs.Code.{ok, enomem, ebusy, einval}
 use Rattle.thread.specs.Upstream.{Tells}
 use Rattle.store.specs.Store.{refuse, settled}
-use Rattle.stack.specs.Stack.{Stack, handsOver, waits, pushes, pops, push, pop, popped, free, used, size, fresh, may}
+use Rattle.stack.specs.Stack.{Stack, wakesWaiter, waits, pushes, pops, push, pop, popped, free, used, size, fresh, may}
 use Rattle.stack.specs.History.{Call, pushing, popping, next, depth}
 
 -- Stack::inv
@@ -97,7 +97,7 @@ Capacity s r = r ≡ pos (s .capacity)
 -- push_decide: Store is 0, WakeWaiter 1, and Full -12; new_count is the word m', which was m
 pub record PushDecide (n c : ℕ) (waiting : Bool) (m : ℕ) (r : ℤ) (m' : ℕ) : Type 0 where
   -- has_waiter ==> result.decision === PushDecision::WakeWaiter
-  pub wakes : waiting ≡ true → r ≡ handsOver
+  pub wakes : waiting ≡ true → r ≡ wakesWaiter
   -- and result.new_count == count
   pub wakes-count : waiting ≡ true → m' ≡ n
   -- !has_waiter && count < capacity ==> result.decision === PushDecision::Store

@@ -4,12 +4,14 @@ use thread::EINVAL;
 use thread::ENOMEM;
 use thread::OK;
 ghost use mathlib.Core.Path.{_≡_};
-ghost use Rattle.store.specs.Store.{Did, looks, handed, first, Started};
+ghost use Rattle.store.specs.Store.{Decided, Did, looks, handed, first, Started};
 ghost use Rattle.stack.specs.Stack.{pops, pushDecide, push, pop, popped, used, free, size, full, empty, fresh, may};
-ghost use Rattle.stack.specs.Post.{place, Decided};
+ghost use Rattle.stack.specs.Post.{place};
 
-// What a push is answered: the word is for the first that waits.
-pub const HANDS_OVER: i32 = 1;
+// What a push is to do, in the order of Gale's PushDecision.
+pub const STORE: i32 = 0;
+
+pub const WAKE_WAITER: i32 = 1;
 
 // What a pop is answered: the caller is to wait.
 pub const WAITS: i32 = 1;
@@ -30,7 +32,7 @@ fn formed(h: &[u32], w: &[u64]) -> bool
     seq::wide(h[0]) <= w.len()
 }
 
-// OK: the word is to be stored; HANDS_OVER; ENOMEM: it is full. new_count is written unless it is refused.
+// STORE; WAKE_WAITER: it is for the first that waits; ENOMEM: it is full. new_count is written unless it is refused.
 pub fn push_decide(count: u32, capacity: u32, has_waiter: bool, new_count: &mut u32) -> i32
     ensures { λ r. ⌜ Decided (pushDecide count capacity «has_waiter») (now («new_count» .entry)) r (now («new_count» .exit)) ⌝ }
 {
@@ -42,7 +44,7 @@ pub fn push_decide(count: u32, capacity: u32, has_waiter: bool, new_count: &mut 
             return EINVAL;
         }
         *new_count = count;
-        return HANDS_OVER;
+        return WAKE_WAITER;
     }
     if capacity < count {
         return EINVAL;
@@ -51,7 +53,7 @@ pub fn push_decide(count: u32, capacity: u32, has_waiter: bool, new_count: &mut 
         return ENOMEM;
     }
     *new_count = count + 1;
-    OK
+    STORE
 }
 
 // OK: there is a word; WAITS; EBUSY: there is none, and the caller may not wait. new_count is written unless it is refused.

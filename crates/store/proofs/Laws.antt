@@ -10,7 +10,7 @@ use lib.ListN.{length}
 use Rattle.seq.specs.List.{any}
 use Rattle.seq.proofs.Order.{clash}
 use Rattle.thread.specs.Code.{ok, einval}
-use Rattle.store.specs.Store.{Reply, refuse, accept, answer, Place, reply, Becomes, After, Did, looks, handed, first, Started}
+use Rattle.store.specs.Store.{Reply, refuse, accept, answer, Decided, Place, reply, Becomes, After, Did, looks, handed, first, Started}
 
 -- two tests, one after the other
 pub both-true : (x y : Bool) → cond x y false ≡ true → (x ≡ true) × (y ≡ true)
@@ -67,6 +67,20 @@ module _ {S : Type 0} (P : Place S) (f : S → Reply S) (h b : List ℕ) where
 
     pub kept-no : {c : ℤ} → P .formed h b ≡ true → f (P .object h b) ≡ refuse c → (r ≡ c) × (h' ≡ h) × (b' ≡ b)
     kept-no e o = kept (replies e ∙ o)
+
+-- what is decided on plain numbers, or declined
+module _ {d : Reply ℕ} {a : ℤ} where
+  pub decides : {n : ℕ} (m : ℕ) → d ≡ accept n a → Decided d m a n
+  decides m e = rw e (record { code = refl; number = refl })
+
+  pub declines : (m : ℕ) → d ≡ refuse a → Decided d m a m
+  declines m e = rw e (record { code = refl; number = refl })
+
+  pub decided : {n m m' : ℕ} {r : ℤ} → d ≡ accept n a → Decided d m r m' → (r ≡ a) × (m' ≡ n)
+  decided {n} {m} {m'} {r} e x = let y = subst (λ (z : Reply ℕ). Decided z m r m') e x in (y .code, y .number)
+
+  pub declined : {m m' : ℕ} {r : ℤ} → d ≡ refuse a → Decided d m r m' → (r ≡ a) × (m' ≡ m)
+  declined {m} {m'} {r} e x = let y = subst (λ (z : Reply ℕ). Decided z m r m') e x in (y .code, y .number)
 
 module _ {S : Type 0} (P : Place S) (h b : List ℕ) where
   -- what is told and handed out of a malformed object, and of any other

@@ -28,6 +28,11 @@ abbrev pub settled : {N : Type 0} → (N → ℕ) → Reply N → ℕ → ℕ
 settled f (refuse r) x = x
 settled f (accept n r) x = f n
 
+-- on plain numbers: the answer is d's, and so is the number n, which stays if that is a refusal
+pub record Decided (d : Reply ℕ) (n : ℕ) (r : ℤ) (n' : ℕ) : Type 0 where
+  pub code : r ≡ answer d
+  pub number : n' ≡ settled (λ m. m) d n
+
 -- where an object stands: how many words of the header are its own and, by the header, how many elements of the buffer; what they mean; and
 -- whether they are as they should be
 pub record Place (S : Type 0) : Type 0 where

@@ -1,8 +1,8 @@
 // Stacks: the header's two words, and the words that it can hold.
 ghost use mathlib.Core.Path.{_≡_};
-ghost use Rattle.store.specs.Store.{Did, looks, handed, first, Started};
+ghost use Rattle.store.specs.Store.{Decided, Did, looks, handed, first, Started};
 ghost use Rattle.stack.specs.Stack.{pops, pushDecide, push, pop, popped, used, free, size, full, empty, fresh, may};
-ghost use Rattle.stack.specs.Post.{place, Decided};
+ghost use Rattle.stack.specs.Post.{place};
 
 #[no_mangle]
 pub extern "C" fn wq_stack_init(head: &mut [u32; 2], word: &[u64], capacity: u32) -> i32

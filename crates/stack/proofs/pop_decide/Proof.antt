@@ -1,6 +1,7 @@
 -- One law for each answer. Assumes nothing.
 use native.Mathlib.Omega.{arith}
-use Rattle.stack.proofs.Numbers.{decides, declines, pop-takes, pop-busy, pop-pends}
+use Rattle.store.proofs.Laws.{decides, declines}
+use Rattle.stack.proofs.Numbers.{pop-takes, pop-busy, pop-pends}
 use borrow.Author.Needs.{needs}
 use Rattle.stack.proofs.pop_decide.Statement.{statement}
 use Rattle.stack.proofs.pop_decide.Tie as tie

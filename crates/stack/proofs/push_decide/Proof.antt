@@ -1,7 +1,8 @@
 -- One law for each answer. Assumes nothing.
 use native.Mathlib.Numerals.{add-one}
 use native.Mathlib.Omega.{arith}
-use Rattle.stack.proofs.Numbers.{decides, declines, push-no-room, push-held, push-wakes, push-over, push-full, push-stores}
+use Rattle.store.proofs.Laws.{decides, declines}
+use Rattle.stack.proofs.Numbers.{push-no-room, push-held, push-wakes, push-over, push-full, push-stores}
 use borrow.Author.Needs.{needs}
 use Rattle.stack.proofs.push_decide.Statement.{statement}
 use Rattle.stack.proofs.push_decide.Tie as tie
