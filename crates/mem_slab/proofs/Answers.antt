@@ -1,17 +1,17 @@
 -- How each answer of a function meets the slab's definition. Assumes nothing.
-use mathlib.Core.Path.{_≡_, refl, sym, ap}
+use mathlib.Core.Path.{_≡_, refl}
 use mathlib.Core.Bool.{Bool, true, false, _&&_}
 use mathlib.Core.List.{List, _∷_}
 use Prim.Native.Nat.{ℕ, _+_, _-_, _≤_, _<_}
 use native.Mathlib.Numerals.{add-one}
 use native.Mathlib.Omega.{arith}
 use lib.Dec.{ltb, eqb}
-use lib.IntN.{ℤ, pos}
+use lib.IntN.{pos}
 use lib.ListN.{getD, take, set, length-set}
 use lib.Seq.{getD-take, take-set-lt, drop-set-lt}
 use borrow.Author.Tests.{lt-ltb, le-ltb, le-leb, lt-leb, ltb-true, eq-eqb, ne-eqb}
 use Rattle.thread.specs.Code.{ok, enomem, einval}
-use Rattle.store.specs.Store.{Reply, refuse, accept, answer, settled, Becomes}
+use Rattle.store.specs.Store.{Becomes}
 use Rattle.store.proofs.Laws.{decides, declines, did-no, did-yes}
 use Rattle.mem_slab.specs.Slab.{Slab, isOut, waits, woke, leads, alloc, free}
 use Rattle.mem_slab.specs.Post.{slab, place, fit, led, isFull, isEmpty, Allocs, Frees, AllocDecided, FreeDecided}

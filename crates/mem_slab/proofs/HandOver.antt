@@ -5,7 +5,7 @@ use mathlib.Core.List.{List, [], _∷_}
 use Prim.Native.Nat.{ℕ, suc, _-_, _≤_, _<_}
 use native.Mathlib.Omega.{arith}
 use lib.Dec.{ltb, eqb}
-use lib.IntN.{pos, negsuc}
+use lib.IntN.{pos}
 use lib.ListN.{length, getD, take, drop, set, take-append-drop}
 use lib.Seq.{set-set, set-getD, getD-set-same, length-take-le}
 use borrow.Author.Tests.{lt-ltb, le-leb, ltb-true, ltb-false, ne-eqb, eqb-true}

@@ -1,6 +1,5 @@
 -- The slab in memory: h = how many blocks, a block's size, how many are out, the block that is given next; l = the links. What each
 -- function does.
-use mathlib.Core.Path.{_≡_}
 use mathlib.Core.Bool.{Bool, true, false, cond, _&&_}
 use mathlib.Core.List.{List}
 use Prim.Native.Nat.{ℕ}
