@@ -1,0 +1,125 @@
+-- A queue's header and buffer: what is tested, and what then holds. Assumes nothing.
+use mathlib.Core.Path.{_≡_, refl, sym, ap, _∙_}
+use mathlib.Core.Bool.{Bool, true, false, cond, not}
+use mathlib.Core.List.{List, [], _∷_}
+use Prim.Native.Nat.{ℕ, _*_, _≤_, _<_}
+use native.Mathlib.Omega.{arith}
+use native.Mathlib.Nat.{mul-le-mul}
+use borrow.Author.Tests.{lt-ltb, le-ltb, lt-leb, le-leb, leb-true, ltb-true, not-true, not-false}
+use lib.Dec.{ltb, leb, eqb}
+use lib.ListN.{length, drop, getD, set}
+use Rattle.store.proofs.Laws.{both-true}
+use Rattle.ring_buf.specs.Bytes.{numbers}
+use Rattle.msgq.specs.Post.{room, sound, sane}
+
+-- a test was passed, or failed
+pub was-true : {r t : Bool} → r ≡ t → not r ≡ false → t ≡ true
+was-true {r} e f = sym e ∙ not-false r f
+
+pub was-false : {r t : Bool} → r ≡ t → not r ≡ true → t ≡ false
+was-false {r} e f = sym e ∙ not-true r f
+
+-- ---- numbers
+
+pub record Within (c i n : ℕ) : Type 0 where
+  pub idx : i < c
+  pub used : n ≤ c
+
+pub within : (c i n : ℕ) → numbers c i n ≡ true → Within c i n
+within c i n e = let x = both-true (ltb i c) (leb n c) e in record { idx = ltb-true i c (x .0); used = leb-true n c (x .1) }
+
+pub is-within : (c i n : ℕ) → Within c i n → numbers c i n ≡ true
+is-within c i n w = rw (lt-ltb i c (w .idx), le-leb n c (w .used))
+
+pub sane-within : (i n c : ℕ) (w : Bool) (m : ℕ) → sane i n c w m ≡ true → Within c i n
+sane-within i n c w m e = within c i n (both-true (numbers c i n) (cond w (eqb n m) true) e .0)
+
+-- ---- room
+
+module _ (z c : ℕ) (b : List ℕ) where
+  pub record Room : Type 0 where
+    pub some : 0 < z
+    pub small : c * z ≤ 4294967295
+    pub long : c * z ≤ length b
+
+  pub roomy : room z c b ≡ true → Room
+  roomy e =
+      let x = both-true (ltb 0 z) _ e in
+      let y = both-true (leb (c * z) 4294967295) _ (x .1) in
+      record { some = ltb-true 0 z (x .0); small = leb-true (c * z) 4294967295 (y .0); long = leb-true (c * z) (length b) (y .1) }
+
+  pub room-is : 0 < z → c * z ≤ 4294967295 → room z c b ≡ leb (c * z) (length b)
+  room-is f g = rw (lt-ltb 0 z f, le-leb (c * z) 4294967295 g)
+
+  pub is-roomy : Room → room z c b ≡ true
+  is-roomy r = room-is (r .some) (r .small) ∙ le-leb (c * z) (length b) (r .long)
+
+  pub room-none : z ≡ 0 → room z c b ≡ false
+  room-none f = rw (le-ltb 0 z (omega arith))
+
+  pub room-over : 0 < z → 4294967295 < c * z → room z c b ≡ false
+  room-over f g = rw (lt-ltb 0 z f, lt-leb (c * z) 4294967295 g)
+
+pub product-fits : (c z : ℕ) → c < 4294967296 → z < 4294967296 → c * z < 18446744073709551616
+product-fits c z f g = omega (arith, mul-le-mul {n₁ = c} {m₁ = z} {n₂ = 4294967295} {m₂ = 4294967295} (omega arith) (omega arith))
+
+-- ---- the header
+
+module _ (h b : List ℕ) where
+  pub record Sound : Type 0 where
+    pub words : 4 ≤ length h
+    pub within : Within (getD h 0 0) (getD h 1 0) (getD h 2 0)
+    pub room : Room (getD h 3 0) (getD h 0 0) b
+
+  pub no-words : length h < 4 → sound h b ≡ false
+  no-words f = rw (lt-leb 4 (length h) f)
+
+  pub sound-is : 4 ≤ length h → sound h b ≡ cond (numbers (getD h 0 0) (getD h 1 0) (getD h 2 0)) (room (getD h 3 0) (getD h 0 0) b) false
+  sound-is w = rw (le-leb 4 (length h) w)
+
+  pub is-sound : Sound → sound h b ≡ true
+  is-sound s =
+      sound-is (s .words) ∙ (λ i. cond (is-within (getD h 0 0) (getD h 1 0) (getD h 2 0) (s .within) i) (is-roomy (getD h 3 0) (getD h 0 0) b (s .room) i) false)
+
+  pub passed : {r : Bool} → r ≡ sound h b → not r ≡ false → Sound
+  passed e f =
+      let x = both-true (leb 4 (length h)) _ (was-true e f) in
+      let y = both-true (numbers (getD h 0 0) (getD h 1 0) (getD h 2 0)) _ (x .1) in
+      record {
+        words = leb-true 4 (length h) (x .0);
+        within = within (getD h 0 0) (getD h 1 0) (getD h 2 0) (y .0);
+        room = roomy (getD h 3 0) (getD h 0 0) b (y .1);
+      }
+
+-- the four words of h' are c, t, n and z, and behind them it is h
+pub record Words (h h' : List ℕ) (c t n z : ℕ) : Type 0 where
+  pub max : getD h' 0 0 ≡ c
+  pub start : getD h' 1 0 ≡ t
+  pub used : getD h' 2 0 ≡ n
+  pub size : getD h' 3 0 ≡ z
+  pub beside : drop 4 h' ≡ drop 4 h
+  pub long : length h' ≡ length h
+
+-- what holds of every header of four words and more
+by-four : (P : List ℕ → Type 0) (h : List ℕ) → 4 ≤ length h → ((c t n z : ℕ) (rest : List ℕ) → P (c ∷ t ∷ n ∷ z ∷ rest)) → P h
+by-four P [] k f = absurd (omega arith)
+by-four P (c ∷ []) k f = absurd (omega arith)
+by-four P (c ∷ t ∷ []) k f = absurd (omega arith)
+by-four P (c ∷ t ∷ n ∷ []) k f = absurd (omega arith)
+by-four P (c ∷ t ∷ n ∷ z ∷ rest) k f = f c t n z rest
+
+module _ (h : List ℕ) (k : 4 ≤ length h) where
+  pub set-all : (c z : ℕ) → Words h (set (set (set (set h 0 c) 1 0) 2 0) 3 z) c 0 0 z
+  set-all c z =
+      by-four (λ (x : List ℕ). Words x (set (set (set (set x 0 c) 1 0) 2 0) 3 z) c 0 0 z) h k
+      (λ c' t n z' rest. record { max = refl; start = refl; used = refl; size = refl; beside = refl; long = refl })
+
+  pub set-used : (n' : ℕ) → Words h (set h 2 n') (getD h 0 0) (getD h 1 0) n' (getD h 3 0)
+  set-used n' =
+      by-four (λ (x : List ℕ). Words x (set x 2 n') (getD x 0 0) (getD x 1 0) n' (getD x 3 0)) h k
+      (λ c t n z rest. record { max = refl; start = refl; used = refl; size = refl; beside = refl; long = refl })
+
+  pub set-both : (t' n' : ℕ) → Words h (set (set h 1 t') 2 n') (getD h 0 0) t' n' (getD h 3 0)
+  set-both t' n' =
+      by-four (λ (x : List ℕ). Words x (set (set x 1 t') 2 n') (getD x 0 0) t' n' (getD x 3 0)) h k
+      (λ c t n z rest. record { max = refl; start = refl; used = refl; size = refl; beside = refl; long = refl })
