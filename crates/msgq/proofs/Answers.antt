@@ -6,41 +6,21 @@ use Prim.Native.Nat.{ℕ, suc, _+_, _-_, _*_, _≤_, _<_}
 use native.Mathlib.Omega.{arith}
 use native.Mathlib.Numerals.{add-one}
 use borrow.Author.Tests.{lt-ltb, le-ltb, eq-eqb, ne-eqb}
-use lib.Dec.{leb}
+use lib.Dec.{eqb}
 use lib.IntN.{ℤ, pos}
 use lib.ListN.{length, take, drop, getD, set, drop-of-length-le, List·getD-eq-default}
 use lib.Seq.{getD-take, paste, length-paste}
 use Rattle.thread.specs.Code.{ok, einval, enomsg}
-use Rattle.store.specs.Store.{Reply, accept, refuse, answer, Becomes, Did, looks, handed, Filled, Started}
-use Rattle.store.proofs.Laws.{any-some, any-none, did-bad, did-no, did-yes, start-short, start-bad, start-made}
+use Rattle.store.specs.Store.{Reply, accept, refuse, answer, carry, reply, Did, looks, handed, Filled}
+use Rattle.store.proofs.Laws.{any-some, any-none, did-bad, did-no, did-yes}
 use Rattle.ring_buf.specs.Ring.{Ring, wrap, turn, ring, append, lead, leave}
 use Rattle.ring_buf.proofs.Rings.{wrap-low, wrap-below, turn-paste, appended, left, led, held-long, spare-long, drop-within}
 use Rattle.msgq.specs.Messages.{slots}
-use Rattle.ring_buf.specs.Bytes.{numbers}
-use Rattle.msgq.specs.Msgq.{Msgq, having, Numbers, now, stored, wakesReader, isRead, wakesWriter, pends, put, putFront, get, peek, seen, purge, numFree, numUsed, writeAt, full, empty}
-use Rattle.msgq.specs.Post.{room, sound, held, messages, new, may, sane, putDecision, getDecision, putFrontDecision, peekDecision, Decided, Found}
+use Rattle.msgq.specs.Msgq.{Msgq, having, max, used, readIdx, peeks, given, put, putFront, get, peek, seen, purge, numFree, numUsed, writeAt, full, empty}
+use Rattle.msgq.specs.Post.{sound, takes, held, messages}
 use Rattle.msgq.proofs.Slots.{length-slots, slot-room, slot-at, slot-long, slot-paste, turn-at}
-use Rattle.msgq.proofs.Headers.{within, sane-within, Room, roomy, Sound, is-sound, Words, set-all, set-used, set-both}
-
--- a new header and buffer
-pub becomes : (h b h' b' : List ℕ) (c t n z : ℕ) {r : Ring (List ℕ)} → 4 ≤ length h → Words h h' c t n z → t < c → n ≤ c → Room z c b → length b' ≡ length b
-    → drop (c * z) b' ≡ drop (c * z) b → ring c t n (slots z c b') ≡ r → Becomes messages (record { size = z; ring = r }) h b h' b'
-becomes h b h' b' c t n z k w f g room l d o =
-    record {
-      formed =
-          is-sound h' b'
-          (record {
-            words = omega arith;
-            within = record { idx = omega arith; used = omega arith };
-            room = rw (w .max, w .size) (record { some = room .some; small = room .small; long = omega arith });
-          });
-      object =
-          (λ i. record { size = w .size i; ring = ring (w .max i) (w .start i) (w .used i) (slots (w .size i) (w .max i) b') })
-          ∙ ap (λ (x : Ring (List ℕ)). record { size = z; ring = x }) o;
-      beside = w .beside;
-      rest = rw (w .max, w .size) d;
-      long = (w .long, l);
-    }
+use Rattle.msgq.proofs.Headers.{Sound, is-sound}
+use Rattle.msgq.proofs.Places.{becomes, set-used, set-both}
 
 -- a place that has the length of what is handed out
 fill : (l o o' : List ℕ) → length l ≡ length o → o' ≡ l → Filled l o o'
@@ -50,8 +30,24 @@ module _ (h b : List ℕ) where
   pub looks-no : (f : Msgq → ℤ) → sound h b ≡ false → einval ≡ looks messages f h b
   looks-no f e = rw e
 
-  pub handed-no : (k i : ℕ) (o : List ℕ) → sound h b ≡ false → Filled (handed messages (seen k i) h b) o o
-  handed-no k i o e = rw e
+  -- a malformed queue, or a message of another size
+  module _ (k : ℕ) (e : takes k h b ≡ false) where
+    pub did-size : (g : Msgq → Reply Msgq) → Did messages (λ (q : Msgq). given (eqb k (q .size)) (g q)) h b einval h b
+    did-size g = go (sound h b) refl e
+      where
+        go : (x : Bool) → sound h b ≡ x → cond x (eqb k (getD h 3 0)) false ≡ false → Did messages (λ (q : Msgq). given (eqb k (q .size)) (g q)) h b einval h b
+        go true x y = did-no messages (λ (q : Msgq). given (eqb k (q .size)) (g q)) h b x (rw y)
+        go false x y = did-bad messages (λ (q : Msgq). given (eqb k (q .size)) (g q)) h b x
+
+    pub peek-size : (i : ℕ) → einval ≡ answer (reply messages (peek k i) h b)
+    peek-size i = did-size (λ (q : Msgq). carry (λ (x : ℕ). q) (peeks (readIdx q) (used q) (max q) i)) .code
+
+    pub handed-size : (i : ℕ) (o : List ℕ) → Filled (handed messages (seen k i) h b) o o
+    handed-size i o = go (sound h b) refl e
+      where
+        go : (x : Bool) → sound h b ≡ x → cond x (eqb k (getD h 3 0)) false ≡ false → Filled (handed messages (seen k i) h b) o o
+        go true x y = rw (x, y)
+        go false x y = rw x
 
   module _ (s : Sound h b) where
     abbrev c : ℕ
@@ -116,16 +112,10 @@ module _ (h b : List ℕ) where
     pub empty-no : (n ≡ 0 → ⊥) → pos 0 ≡ looks messages empty h b
     empty-no e = rw (good, any-some (take n (turn t S)) (omega (arith, hold)))
 
-    -- a message of another size, and no room
+    -- no room
     module _ (m : List ℕ) where
-      pub put-size : (length m ≡ z → ⊥) → Did messages (put m) h b einval h b
-      put-size e = did-no messages (put m) h b good (rw (ne-eqb (length m) z e))
-
       pub put-full : length m ≡ z → n ≡ c → Did messages (put m) h b enomsg h b
       put-full e f = did-no messages (put m) h b good (rw (eq-eqb (length m) z e, hold, le-ltb n c (omega arith)))
-
-      pub front-size : (length m ≡ z → ⊥) → Did messages (putFront m) h b einval h b
-      front-size e = did-no messages (putFront m) h b good (rw (ne-eqb (length m) z e))
 
       pub front-full : length m ≡ z → n ≡ c → Did messages (putFront m) h b enomsg h b
       front-full e f = did-no messages (putFront m) h b good (rw (eq-eqb (length m) z e, hold, le-ltb n c (omega arith)))
@@ -161,11 +151,8 @@ module _ (h b : List ℕ) where
             (becomes h b (set (set h 1 a) 2 (n + 1)) b' c a (n + 1) z (s .words) (set-both h (s .words) a (n + 1)) g (omega arith) (s .room) same behind
             ((λ i. ring c (v i) (add-one n i) ((in-slot ∙ ap (λ (x : ℕ). paste S x (m ∷ []) 1) v) i)) ∙ led c t n S many (s .within .idx) (s .within .used) m f))
 
-    -- a place of another size, and no message
+    -- no message
     module _ (o : List ℕ) where
-      pub get-size : (length o ≡ z → ⊥) → Did messages (get (length o)) h b einval h b
-      get-size e = did-no messages (get (length o)) h b good (rw (ne-eqb (length o) z e))
-
       pub get-empty : length o ≡ z → n ≡ 0 → Did messages (get (length o)) h b enomsg h b
       get-empty e f = did-no messages (get (length o)) h b good (rw (eq-eqb (length o) z e, hold, le-ltb 0 n (omega arith)))
 
@@ -177,17 +164,11 @@ module _ (h b : List ℕ) where
           (ap (λ (x : ℕ). ring c x (n - 1) S) v ∙ left c t n S many (s .within .idx) (s .within .used) 1 f))
 
       module _ (i : ℕ) where
-        pub peek-size : (length o ≡ z → ⊥) → einval ≡ looks messages (λ (q : Msgq). answer (peek (length o) i q)) h b
-        peek-size e = rw (good, ne-eqb (length o) z e)
-
-        pub peek-past : length o ≡ z → n ≤ i → enomsg ≡ looks messages (λ (q : Msgq). answer (peek (length o) i q)) h b
+        pub peek-past : length o ≡ z → n ≤ i → enomsg ≡ answer (reply messages (peek (length o) i) h b)
         peek-past e f = rw (good, eq-eqb (length o) z e, hold, le-ltb i n f)
 
-        pub peek-done : length o ≡ z → i < n → ok ≡ looks messages (λ (q : Msgq). answer (peek (length o) i q)) h b
+        pub peek-done : length o ≡ z → i < n → ok ≡ answer (reply messages (peek (length o) i) h b)
         peek-done e f = rw (good, eq-eqb (length o) z e, hold, lt-ltb i n f)
-
-        pub unseen-size : (length o ≡ z → ⊥) → Filled (handed messages (seen (length o) i) h b) o o
-        unseen-size e = rw (good, ne-eqb (length o) z e)
 
         -- the message i in the slot a
         pub shown : (a : ℕ) (o' : List ℕ) → length o ≡ z → i < n → a ≡ wrap (t + i) c → o' ≡ take (length o) (drop (a * length o) b)
@@ -212,82 +193,3 @@ module _ (h b : List ℕ) where
         (becomes h b (set (set h 1 a) 2 0) b c a 0 z (s .words) (set-both h (s .words) a 0)
         (omega (arith, wrap-below (t + n) c (omega (arith, s .within .idx, s .within .used)))) (omega arith) (s .room) refl refl
         ((λ i. ring c (v i) (sym y i) S) ∙ left c t n S many (s .within .idx) (s .within .used) n (omega arith)))
-
--- a new queue
-module _ (h b : List ℕ) (z c : ℕ) where
-  pub init-short : length h < 4 → Started messages (may z c b) (new z c b) h b einval h b
-  init-short f = start-short f
-
-  module _ (k : 4 ≤ length h) where
-    pub init-none : c ≡ 0 → Started messages (may z c b) (new z c b) h b einval h b
-    init-none e = start-bad k (rw (le-ltb 0 c (omega arith)))
-
-    pub init-bad : 0 < c → room z c b ≡ false → Started messages (may z c b) (new z c b) h b einval h b
-    init-bad f e = start-bad k (rw (lt-ltb 0 c f) e)
-
-    pub init-made : 0 < c → room z c b ≡ true → Started messages (may z c b) (new z c b) h b ok (set (set (set (set h 0 c) 1 0) 2 0) 3 z) b
-    init-made f e =
-        start-made k (rw (lt-ltb 0 c f) e)
-        (becomes h b (set (set (set (set h 0 c) 1 0) 2 0) 3 z) b c 0 0 z k (set-all h k c z) f (omega arith) (roomy z c b e) refl refl refl)
-
--- ---- on plain numbers
-
-module _ (y : Reply Numbers) (i n : ℕ) where
-  pub decided-no : {r : ℤ} → y ≡ refuse r → Decided y i n r i n
-  decided-no e = rw e (record { code = refl; idx = refl; used = refl })
-
-  pub decided : {i' n' : ℕ} {r : ℤ} → y ≡ accept (now i' n') r → Decided y i n r i' n'
-  decided e = rw e (record { code = refl; idx = refl; used = refl })
-
-module _ (i n c : ℕ) (reader k : Bool) where
-  pub put-insane : sane i n c reader 0 ≡ false → putDecision i n c reader k ≡ refuse einval
-  put-insane e = rw e
-
-  pub get-insane : sane i n c reader c ≡ false → getDecision i n c reader k ≡ refuse einval
-  get-insane e = rw e
-
-  module _ (s : sane i n c reader 0 ≡ true) where
-    pub put-refuses : n ≡ c → k ≡ true → putDecision i n c reader k ≡ refuse enomsg
-    put-refuses e f = rw (s, le-ltb n c (omega arith), f)
-
-    pub put-pends : n ≡ c → k ≡ false → putDecision i n c reader k ≡ accept (now i n) pends
-    put-pends e f = rw (s, le-ltb n c (omega arith), f)
-
-    pub put-wakes : (n ≡ c → ⊥) → reader ≡ true → putDecision i n c reader k ≡ accept (now i n) wakesReader
-    put-wakes e f = rw (s, lt-ltb n c (omega (arith, sane-within i n c reader 0 s .used)), f)
-
-    pub put-stores : (a : ℕ) → (n ≡ c → ⊥) → reader ≡ false → a ≡ wrap (i + 1) c → putDecision i n c reader k ≡ accept (now a (n + 1)) stored
-    put-stores a e f v = rw (s, lt-ltb n c (omega (arith, sane-within i n c reader 0 s .used)), f, v)
-
-  module _ (s : sane i n c reader c ≡ true) where
-    pub get-refuses : n ≡ 0 → k ≡ true → getDecision i n c reader k ≡ refuse enomsg
-    get-refuses e f = rw (s, le-ltb 0 n (omega arith), f)
-
-    pub get-pends : n ≡ 0 → k ≡ false → getDecision i n c reader k ≡ accept (now i n) pends
-    get-pends e f = rw (s, le-ltb 0 n (omega arith), f)
-
-    pub get-wakes : (a : ℕ) → (n ≡ 0 → ⊥) → reader ≡ true → a ≡ wrap (i + 1) c → getDecision i n c reader k ≡ accept (now a (n - 1)) wakesWriter
-    get-wakes a e f v = rw (s, lt-ltb 0 n (omega arith), f, v)
-
-    pub get-reads : (a : ℕ) → (n ≡ 0 → ⊥) → reader ≡ false → a ≡ wrap (i + 1) c → getDecision i n c reader k ≡ accept (now a (n - 1)) isRead
-    get-reads a e f v = rw (s, lt-ltb 0 n (omega arith), f, v)
-
-module _ (t n c : ℕ) where
-  pub lead-insane : numbers c t n ≡ false → putFrontDecision t n c ≡ refuse einval
-  lead-insane e = rw e
-
-  pub lead-refuses : numbers c t n ≡ true → n ≡ c → putFrontDecision t n c ≡ refuse enomsg
-  lead-refuses s e = rw (s, le-ltb n c (omega arith))
-
-  pub lead-stores : (a : ℕ) → numbers c t n ≡ true → (n ≡ c → ⊥) → a ≡ wrap (t + (c - 1)) c → putFrontDecision t n c ≡ accept (now a (n + 1)) ok
-  lead-stores a s e v = rw (s, lt-ltb n c (omega (arith, within c t n s .used)), v)
-
-  module _ (i x : ℕ) where
-    pub found-insane : numbers c t n ≡ false → Found (peekDecision t n c i) x einval x
-    found-insane e = rw e (record { code = refl; slot = refl })
-
-    pub found-past : numbers c t n ≡ true → n ≤ i → Found (peekDecision t n c i) x enomsg x
-    found-past s e = rw (s, le-ltb i n e) (record { code = refl; slot = refl })
-
-    pub found : (a : ℕ) → numbers c t n ≡ true → i < n → a ≡ wrap (t + i) c → Found (peekDecision t n c i) x ok a
-    found a s e v = rw (s, lt-ltb i n e, v) (record { code = refl; slot = refl })

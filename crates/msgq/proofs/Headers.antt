@@ -5,12 +5,12 @@ use mathlib.Core.List.{List, [], _∷_}
 use Prim.Native.Nat.{ℕ, _*_, _≤_, _<_}
 use native.Mathlib.Omega.{arith}
 use native.Mathlib.Nat.{mul-le-mul}
-use borrow.Author.Tests.{lt-ltb, le-ltb, lt-leb, le-leb, leb-true, ltb-true, not-true, not-false}
+use borrow.Author.Tests.{lt-ltb, le-ltb, lt-leb, le-leb, leb-true, ltb-true, eqb-true, not-true, not-false}
 use lib.Dec.{ltb, leb, eqb}
 use lib.ListN.{length, drop, getD, set}
 use Rattle.store.proofs.Laws.{both-true}
 use Rattle.ring_buf.specs.Bytes.{numbers}
-use Rattle.msgq.specs.Post.{room, sound, sane}
+use Rattle.msgq.specs.Post.{room, sound, takes, sane}
 
 -- a test was passed, or failed
 pub was-true : {r t : Bool} → r ≡ t → not r ≡ false → t ≡ true
@@ -81,9 +81,9 @@ module _ (h b : List ℕ) where
   is-sound s =
       sound-is (s .words) ∙ (λ i. cond (is-within (getD h 0 0) (getD h 1 0) (getD h 2 0) (s .within) i) (is-roomy (getD h 3 0) (getD h 0 0) b (s .room) i) false)
 
-  pub passed : {r : Bool} → r ≡ sound h b → not r ≡ false → Sound
-  passed e f =
-      let x = both-true (leb 4 (length h)) _ (was-true e f) in
+  from-sound : sound h b ≡ true → Sound
+  from-sound e =
+      let x = both-true (leb 4 (length h)) _ e in
       let y = both-true (numbers (getD h 0 0) (getD h 1 0) (getD h 2 0)) _ (x .1) in
       record {
         words = leb-true 4 (length h) (x .0);
@@ -91,35 +91,8 @@ module _ (h b : List ℕ) where
         room = roomy (getD h 3 0) (getD h 0 0) b (y .1);
       }
 
--- the four words of h' are c, t, n and z, and behind them it is h
-pub record Words (h h' : List ℕ) (c t n z : ℕ) : Type 0 where
-  pub max : getD h' 0 0 ≡ c
-  pub start : getD h' 1 0 ≡ t
-  pub used : getD h' 2 0 ≡ n
-  pub size : getD h' 3 0 ≡ z
-  pub beside : drop 4 h' ≡ drop 4 h
-  pub long : length h' ≡ length h
+  pub passed : {r : Bool} → r ≡ sound h b → not r ≡ false → Sound
+  passed e f = from-sound (was-true e f)
 
--- what holds of every header of four words and more
-by-four : (P : List ℕ → Type 0) (h : List ℕ) → 4 ≤ length h → ((c t n z : ℕ) (rest : List ℕ) → P (c ∷ t ∷ n ∷ z ∷ rest)) → P h
-by-four P [] k f = absurd (omega arith)
-by-four P (c ∷ []) k f = absurd (omega arith)
-by-four P (c ∷ t ∷ []) k f = absurd (omega arith)
-by-four P (c ∷ t ∷ n ∷ []) k f = absurd (omega arith)
-by-four P (c ∷ t ∷ n ∷ z ∷ rest) k f = f c t n z rest
-
-module _ (h : List ℕ) (k : 4 ≤ length h) where
-  pub set-all : (c z : ℕ) → Words h (set (set (set (set h 0 c) 1 0) 2 0) 3 z) c 0 0 z
-  set-all c z =
-      by-four (λ (x : List ℕ). Words x (set (set (set (set x 0 c) 1 0) 2 0) 3 z) c 0 0 z) h k
-      (λ c' t n z' rest. record { max = refl; start = refl; used = refl; size = refl; beside = refl; long = refl })
-
-  pub set-used : (n' : ℕ) → Words h (set h 2 n') (getD h 0 0) (getD h 1 0) n' (getD h 3 0)
-  set-used n' =
-      by-four (λ (x : List ℕ). Words x (set x 2 n') (getD x 0 0) (getD x 1 0) n' (getD x 3 0)) h k
-      (λ c t n z rest. record { max = refl; start = refl; used = refl; size = refl; beside = refl; long = refl })
-
-  pub set-both : (t' n' : ℕ) → Words h (set (set h 1 t') 2 n') (getD h 0 0) t' n' (getD h 3 0)
-  set-both t' n' =
-      by-four (λ (x : List ℕ). Words x (set (set x 1 t') 2 n') (getD x 0 0) t' n' (getD x 3 0)) h k
-      (λ c t n z rest. record { max = refl; start = refl; used = refl; size = refl; beside = refl; long = refl })
+  pub taken : (k : ℕ) {r : Bool} → r ≡ takes k h b → not r ≡ false → Sound × (k ≡ getD h 3 0)
+  taken k e f = let x = both-true (sound h b) (eqb k (getD h 3 0)) (was-true e f) in (from-sound (x .0), eqb-true k (getD h 3 0) (x .1))

@@ -1,3 +1,5 @@
 pub mod Slots
 pub mod Headers
+pub mod Places
 pub mod Answers
+pub mod Decisions

@@ -24,6 +24,10 @@ sound h b =
     (cond (numbers (getD h 0 0) (getD h 1 0) (getD h 2 0)) (room (getD h 3 0) (getD h 0 0) b) false)
     false
 
+-- and a message has k bytes
+abbrev pub takes : ℕ → List ℕ → List ℕ → Bool
+takes k h b = cond (sound h b) (eqb k (getD h 3 0)) false
+
 abbrev pub held : List ℕ → List ℕ → Msgq
 held h b =
     record { size = getD h 3 0; ring = ring (getD h 0 0) (getD h 1 0) (getD h 2 0) (slots (getD h 3 0) (getD h 0 0) b) }

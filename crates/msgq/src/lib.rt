@@ -10,11 +10,11 @@ ghost use mathlib.Core.List.{List};
 ghost use lib.Dec.{eqb};
 ghost use lib.ListN.{length, take, drop, getD};
 ghost use lib.Seq.{paste};
-ghost use Rattle.store.specs.Store.{answer, Did, looks, handed, Filled, Started};
+ghost use Rattle.store.specs.Store.{answer, reply, Did, looks, handed, Filled, Started};
 ghost use Rattle.ring_buf.specs.Ring.{wrap};
 ghost use Rattle.ring_buf.specs.Bytes.{numbers as within};
-ghost use Rattle.msgq.specs.Msgq.{Msgq, put as putBack, putFront, get as getFirst, peek, seen, purge as emptied, numFree, numUsed, msgSize, maxMsgs, readAt, writeAt, full, empty};
-ghost use Rattle.msgq.specs.Post.{room, sound, messages, new, may, sane as fitting, putDecision, getDecision, putFrontDecision, peekDecision, Decided, Found};
+ghost use Rattle.msgq.specs.Msgq.{put as putBack, putFront, get as getFirst, peek, seen, purge as emptied, numFree, numUsed, msgSize, maxMsgs, readAt, writeAt, full, empty};
+ghost use Rattle.msgq.specs.Post.{room, sound, takes, messages, new, may, sane as fitting, putDecision, getDecision, putFrontDecision, peekDecision, Decided, Found};
 
 // What a put is to do: Gale's PutDecision.
 pub const STORE: i32 = 0;
@@ -109,6 +109,16 @@ fn formed(h: &[u32], b: &[u8]) -> bool
         return false;
     }
     fits(b, h[3], max)
+}
+
+// And whether a message has n bytes.
+fn sized(h: &[u32], b: &[u8], n: usize) -> bool
+    ensures { λ r. ⌜ r ≡ takes n (now (h .entry)) (now (b .entry)) ⌝ }
+{
+    if !formed(h, b) {
+        return false;
+    }
+    n == seq::wide(h[3])
 }
 
 // STORE, WAKE_READER or PEND; ENOMSG: it is full; EINVAL, also if a reader waits while there are messages.
@@ -240,10 +250,7 @@ pub fn init(h: &mut [u32], b: &[u8], msg_size: u32, max_msgs: u32) -> i32
 pub fn put(h: &mut [u32], b: &mut [u8], msg: &[u8]) -> i32
     ensures { λ r. ⌜ Did messages (putBack (now (msg .entry))) (now (h .entry)) (now (b .entry)) r (now (h .exit)) (now (b .exit)) ⌝ }
 {
-    if !formed(h, b) {
-        return EINVAL;
-    }
-    if msg.len() != seq::wide(h[3]) {
+    if !sized(h, b, msg.len()) {
         return EINVAL;
     }
     let max = h[0];
@@ -260,10 +267,7 @@ pub fn put(h: &mut [u32], b: &mut [u8], msg: &[u8]) -> i32
 pub fn put_front(h: &mut [u32], b: &mut [u8], msg: &[u8]) -> i32
     ensures { λ r. ⌜ Did messages (putFront (now (msg .entry))) (now (h .entry)) (now (b .entry)) r (now (h .exit)) (now (b .exit)) ⌝ }
 {
-    if !formed(h, b) {
-        return EINVAL;
-    }
-    if msg.len() != seq::wide(h[3]) {
+    if !sized(h, b, msg.len()) {
         return EINVAL;
     }
     let max = h[0];
@@ -283,10 +287,7 @@ pub fn get(h: &mut [u32], b: &[u8], out: &mut [u8]) -> i32
     ensures { λ r. ⌜ Did messages (getFirst (length (now (out .entry)))) (now (h .entry)) (now (b .entry)) r (now (h .exit)) (now (b .entry)) ⌝ }
     ensures { λ r. ⌜ Filled (handed messages (seen (length (now (out .entry))) 0) (now (h .entry)) (now (b .entry))) (now (out .entry)) (now (out .exit)) ⌝ }
 {
-    if !formed(h, b) {
-        return EINVAL;
-    }
-    if out.len() != seq::wide(h[3]) {
+    if !sized(h, b, out.len()) {
         return EINVAL;
     }
     let used = h[2];
@@ -302,13 +303,10 @@ pub fn get(h: &mut [u32], b: &[u8], out: &mut [u8]) -> i32
 
 // OK: out is the message at idx, 0 being the first; EINVAL, also for an out of another size; ENOMSG: there are no more than idx.
 pub fn peek_at(h: &[u32], b: &[u8], idx: u32, out: &mut [u8]) -> i32
-    ensures { λ r. ⌜ r ≡ looks messages (λ (q : Msgq). answer (peek (length (now (out .entry))) idx q)) (now (h .entry)) (now (b .entry)) ⌝ }
+    ensures { λ r. ⌜ r ≡ answer (reply messages (peek (length (now (out .entry))) idx) (now (h .entry)) (now (b .entry))) ⌝ }
     ensures { λ r. ⌜ Filled (handed messages (seen (length (now (out .entry))) idx) (now (h .entry)) (now (b .entry))) (now (out .entry)) (now (out .exit)) ⌝ }
 {
-    if !formed(h, b) {
-        return EINVAL;
-    }
-    if out.len() != seq::wide(h[3]) {
+    if !sized(h, b, out.len()) {
         return EINVAL;
     }
     if h[2] <= idx {

@@ -1,6 +1,6 @@
 -- One law for each answer. Assumes nothing.
 use native.Mathlib.Omega.{arith}
-use Rattle.msgq.proofs.Answers.{decided, decided-no, get-insane, get-refuses, get-pends, get-wakes, get-reads}
+use Rattle.msgq.proofs.Decisions.{decided, decided-no, get-insane, get-refuses, get-pends, get-wakes, get-reads}
 use Rattle.msgq.proofs.Headers.{was-true, was-false, sane-within}
 use borrow.Author.Needs.{needs}
 use Rattle.msgq.proofs.get_decide.Statement.{statement}

@@ -1,8 +1,8 @@
 -- One law for each answer. Assumes nothing.
 use native.Mathlib.Omega.{arith}
 use lib.ListN.{length-set}
-use Rattle.msgq.proofs.Answers.{init-short, init-none, init-bad, init-made}
 use Rattle.msgq.proofs.Headers.{was-true, was-false}
+use Rattle.msgq.proofs.Places.{init-short, init-none, init-bad, init-made}
 use borrow.Author.Needs.{needs}
 use Rattle.msgq.proofs.init.Statement.{statement}
 use Rattle.msgq.proofs.init.Tie as tie

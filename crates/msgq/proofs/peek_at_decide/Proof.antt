@@ -1,6 +1,6 @@
 -- One law for each answer. Assumes nothing.
 use native.Mathlib.Omega.{arith}
-use Rattle.msgq.proofs.Answers.{found, found-insane, found-past}
+use Rattle.msgq.proofs.Decisions.{found, found-insane, found-past}
 use Rattle.msgq.proofs.Headers.{was-true, was-false, within}
 use borrow.Author.Needs.{needs}
 use Rattle.msgq.proofs.peek_at_decide.Statement.{statement}

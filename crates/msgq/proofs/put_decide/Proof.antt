@@ -1,6 +1,6 @@
 -- One law for each answer. Assumes nothing.
 use native.Mathlib.Omega.{arith}
-use Rattle.msgq.proofs.Answers.{decided, decided-no, put-insane, put-refuses, put-pends, put-wakes, put-stores}
+use Rattle.msgq.proofs.Decisions.{decided, decided-no, put-insane, put-refuses, put-pends, put-wakes, put-stores}
 use Rattle.msgq.proofs.Headers.{was-true, was-false, sane-within}
 use borrow.Author.Needs.{needs}
 use Rattle.msgq.proofs.put_decide.Statement.{statement}

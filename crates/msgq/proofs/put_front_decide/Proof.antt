@@ -1,6 +1,6 @@
 -- One law for each answer. Assumes nothing.
 use native.Mathlib.Omega.{arith}
-use Rattle.msgq.proofs.Answers.{decided, decided-no, lead-insane, lead-refuses, lead-stores}
+use Rattle.msgq.proofs.Decisions.{decided, decided-no, lead-insane, lead-refuses, lead-stores}
 use Rattle.msgq.proofs.Headers.{was-true, was-false, within}
 use borrow.Author.Needs.{needs}
 use Rattle.msgq.proofs.put_front_decide.Statement.{statement}
