@@ -1,6 +1,7 @@
 // The C interface: include/waitqueue.h.
 pub mod condvars;
 pub mod futexes;
+pub mod msgqs;
 pub mod mutexes;
 pub mod queues;
 pub mod rings;
