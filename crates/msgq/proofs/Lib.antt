@@ -3,3 +3,7 @@ pub mod Headers
 pub mod Places
 pub mod Answers
 pub mod Decisions
+pub mod Steps
+pub mod Histories
+pub mod Agreements
+pub mod HandOvers

@@ -1,3 +1,6 @@
 pub mod Messages
 pub mod Msgq
 pub mod Post
+pub mod History
+pub mod Agreement
+pub mod HandOver

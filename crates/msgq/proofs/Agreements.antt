@@ -1,0 +1,69 @@
+-- The decide functions agree with the queue. Assumes nothing.
+use mathlib.Core.Path.{_≡_, refl, sym, ap, subst, _∙_}
+use mathlib.Core.Bool.{Bool, true, false, cond}
+use mathlib.Core.List.{List, [], _∷_, _++_}
+use Prim.Native.Nat.{ℕ, suc, _+_, _-_, _≤_, _<_}
+use native.Mathlib.Omega.{arith}
+use native.Mathlib.Numerals.{add-one}
+use borrow.Author.Tests.{ltb-true, lt-ltb, le-leb, eq-eqb}
+use lib.Dec.{eqb, ltb}
+use lib.ListN.{length, length-append, length-drop}
+use Rattle.thread.specs.Code.{ok, enomsg}
+use Rattle.store.specs.Store.{accept, refuse, answer, carry}
+use Rattle.ring_buf.specs.Ring.{wrap}
+use Rattle.ring_buf.specs.Bytes.{numbers}
+use Rattle.ring_buf.proofs.Rings.{wrap-wrap}
+use Rattle.msgq.specs.Msgq.{Msgq, max, used, readIdx, writeIdx, put, putFront, get, peek}
+use Rattle.msgq.specs.Post.{putDecision, getDecision, putFrontDecision, peekDecision}
+use Rattle.msgq.specs.History.{Good}
+use Rattle.msgq.specs.Agreement.{By, Agrees}
+use Rattle.msgq.proofs.Headers.{is-within}
+
+module _ (c z : ℕ) (q : Msgq) (g : Good c z q) where
+  few : used q ≤ max q
+  few = omega (arith, g .slots, g .max)
+
+  pub read-within : numbers (max q) (readIdx q) (used q) ≡ true
+  read-within = is-within (max q) (readIdx q) (used q) (record { idx = omega (arith, g .read, g .max); used = few })
+
+  pub write-within : numbers (max q) (writeIdx q) (used q) ≡ true
+  write-within = is-within (max q) (writeIdx q) (used q) (record { idx = omega (arith, g .write, g .max); used = few })
+
+  put-agrees : (m : List ℕ) → length m ≡ q .size → By (put m q) q writeIdx (putDecision (writeIdx q) (used q) (max q) false true)
+  put-agrees m e = go (ltb (used q) (max q)) refl
+    where
+      go : (b : Bool) → ltb (used q) (max q) ≡ b → By (put m q) q writeIdx (putDecision (writeIdx q) (used q) (max q) false true)
+      go true u =
+          let f = ltb-true (used q) (max q) u in
+          let x : length (q .ring .held ++ m ∷ []) ≡ used q + 1 = length-append (q .ring .held) (m ∷ []) in
+          rw (write-within, eq-eqb (length m) (q .size) e, u)
+          (record {
+            code = refl;
+            idx = ap (λ (n : ℕ). wrap (readIdx q + n) (max q)) x ∙ sym (wrap-wrap (readIdx q) (used q) 1 (max q) (omega (arith, g .read, g .max)) (omega arith));
+            used = x;
+          })
+      go false u = rw (write-within, eq-eqb (length m) (q .size) e, u) (record { code = refl; idx = refl; used = refl })
+
+  front-agrees : (m : List ℕ) → length m ≡ q .size → By (putFront m q) q readIdx (putFrontDecision (readIdx q) (used q) (max q))
+  front-agrees m e = go (ltb (used q) (max q)) refl
+    where
+      go : (b : Bool) → ltb (used q) (max q) ≡ b → By (putFront m q) q readIdx (putFrontDecision (readIdx q) (used q) (max q))
+      go true u = rw (read-within, eq-eqb (length m) (q .size) e, u) (record { code = refl; idx = refl; used = sym (add-one (used q)) })
+      go false u = rw (read-within, eq-eqb (length m) (q .size) e, u) (record { code = refl; idx = refl; used = refl })
+
+  get-agrees : By (get (q .size) q) q readIdx (getDecision (readIdx q) (used q) (max q) false true)
+  get-agrees = go (ltb 0 (used q)) refl
+    where
+      go : (b : Bool) → ltb 0 (used q) ≡ b → By (get (q .size) q) q readIdx (getDecision (readIdx q) (used q) (max q) false true)
+      go true u = rw (read-within, eq-eqb (q .size) (q .size) refl, u) (record { code = refl; idx = refl; used = length-drop 1 (q .ring .held) })
+      go false u = rw (read-within, eq-eqb (q .size) (q .size) refl, u) (record { code = refl; idx = refl; used = refl })
+
+  peek-agrees : (i : ℕ) → answer (peek (q .size) i q) ≡ answer (peekDecision (readIdx q) (used q) (max q) i)
+  peek-agrees i = rw (read-within, eq-eqb (q .size) (q .size) refl) (go (ltb i (used q)))
+    where
+      go : (b : Bool) → answer (carry (λ (x : ℕ). q) (cond b (accept (wrap (readIdx q + i) (max q)) ok) (refuse enomsg))) ≡ answer (cond b (accept (wrap (readIdx q + i) (max q)) ok) (refuse enomsg))
+      go true = refl
+      go false = refl
+
+  pub agrees : Agrees q
+  agrees = record { put = put-agrees; putFront = front-agrees; get = get-agrees; peek = peek-agrees }

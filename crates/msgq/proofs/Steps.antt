@@ -1,0 +1,116 @@
+-- What one call does to a queue and to the log. Assumes nothing.
+use mathlib.Core.Path.{_≡_, refl, sym, ap, subst, _∙_}
+use mathlib.Core.Bool.{Bool, true, false, cond}
+use mathlib.Core.List.{List, [], _∷_, _++_, append-assoc, append-nil}
+use Prim.Native.Nat.{ℕ, suc, _+_, _-_, _≤_, _<_}
+use native.Mathlib.Omega.{arith}
+use borrow.Author.Tests.{ltb-true, eqb-true}
+use lib.Dec.{eqb, ltb}
+use lib.ListN.{length, take, drop, getD, length-append, length-take, length-drop}
+use lib.Seq.{take-append-seam, drop-append-seam, drop-length, append-snoc}
+use Rattle.seq.specs.List.{All}
+use Rattle.seq.proofs.Sub.{sub-drop, sub-holds}
+use Rattle.thread.specs.Code.{ok, enomsg}
+use Rattle.store.specs.Store.{Reply, refuse, accept, answer, carry}
+use Rattle.ring_buf.specs.Ring.{Ring, wrap, append, lead, leave}
+use Rattle.ring_buf.proofs.Rings.{wrap-below}
+use Rattle.msgq.specs.Msgq.{Msgq, Numbers, now, having, max, used, readIdx, writeIdx, given}
+use Rattle.msgq.specs.History.{Call, put, putFront, get, purge, does, out, left, noted, note, State, next, Good, Promise}
+
+pub all-behind : {A : Type 0} (P : A → Type 0) (l : List A) (x : A) → All P l → P x → All P (l ++ x ∷ [])
+all-behind P [] x a p = (p, tt)
+all-behind P (y ∷ l) x a p = (a .0, all-behind P l x (a .1) p)
+
+-- what is left of a queue, by its parts
+module _ (c z : ℕ) (q : Msgq) (g : Good c z q) where
+  abbrev H : List (List ℕ)
+  H = q .ring .held
+
+  -- the numbers of a ring that is filled as it should be
+  good : (r : Ring (List ℕ)) → r .capacity ≡ c → r .start < c → length (r .held) + length (r .spare) ≡ c → All (λ (m : List ℕ). length m ≡ z) (r .held) → Good c z (having r q)
+  good r e f l a =
+      record {
+        max = e;
+        size = g .size;
+        read = f;
+        write = subst (λ (x : ℕ). wrap (r .start + length (r .held)) x < c) (sym e) (wrap-below (r .start + length (r .held)) c (omega arith));
+        slots = l;
+        messages = a;
+      }
+
+  pub good-put : (m : List ℕ) → used q < c → length m ≡ z → Good c z (having (append (m ∷ []) (q .ring)) q)
+  good-put m f e =
+      good (append (m ∷ []) (q .ring)) (g .max) (g .read) (simp (length-append, length-drop) (omega (arith, g .slots)))
+      (all-behind (λ (x : List ℕ). length x ≡ z) H m (g .messages) e)
+
+  pub good-front : (m : List ℕ) → used q < c → length m ≡ z → Good c z (having (lead m (q .ring)) q)
+  good-front m f e =
+      good (lead m (q .ring)) (g .max)
+      (subst (λ (x : ℕ). wrap (readIdx q + (x - 1)) x < c) (sym (g .max)) (wrap-below (readIdx q + (c - 1)) c (omega (arith, g .read))))
+      (simp length-take (omega (arith, g .slots))) (e, g .messages)
+
+  pub good-leave : (k : ℕ) → k ≤ used q → Good c z (having (leave k (q .ring)) q)
+  good-leave k f =
+      good (leave k (q .ring)) (g .max)
+      (subst (λ (x : ℕ). wrap (readIdx q + k) x < c) (sym (g .max)) (wrap-below (readIdx q + k) c (omega (arith, g .read, g .slots))))
+      (simp (length-append, length-take, length-drop) (omega (arith, g .slots)))
+      (sub-holds (λ (x : List ℕ). length x ≡ z) (sub-drop k H) (g .messages))
+
+-- what is written down, by the lists: what came out, what is held, the line
+line-put : (g l n : List (List ℕ)) (m : List ℕ) → g ++ l ≡ n → g ++ (l ++ m ∷ []) ≡ n ++ m ∷ []
+line-put g l n m e = sym (append-assoc g l (m ∷ [])) ∙ ap (λ (x : List (List ℕ)). x ++ m ∷ []) e
+
+line-front : (g l n : List (List ℕ)) (m : List ℕ) → g ++ l ≡ n → g ++ m ∷ l ≡ take (length g) n ++ m ∷ drop (length g) n
+line-front g l n m e =
+    (λ i. sym (take-append-seam g l) i ++ m ∷ sym (drop-append-seam g l) i) ∙ ap (λ (x : List (List ℕ)). take (length g) x ++ m ∷ drop (length g) x) e
+
+line-get : (g l n : List (List ℕ)) → 0 < length l → g ++ l ≡ n → (g ++ getD l 0 [] ∷ []) ++ drop 1 l ≡ n
+line-get g [] n f e = absurd (omega arith)
+line-get g (x ∷ l) n f e = append-snoc g x l ∙ e
+
+line-purge : (g l n : List (List ℕ)) → g ++ l ≡ n → g ++ drop (length l) l ≡ take (length g) n
+line-purge g l n e = ap (λ (x : List (List ℕ)). g ++ x) (drop-length l) ∙ append-nil g ∙ sym (take-append-seam g l) ∙ ap (take (length g)) e
+
+module _ (c z : ℕ) (s : State) (p : Promise c z s) where
+  abbrev Q : Msgq
+  Q = s .queue
+
+  -- a call that is done if two tests are passed, and else refused
+  tested : (k : Call) (t u : Bool) (q : Msgq) (n : Numbers) → does k Q ≡ given t (carry (λ (x : Numbers). q) (cond u (accept n ok) (refuse enomsg)))
+      → (t ≡ true → u ≡ true → Promise c z (record { queue = q; log = noted k (out k Q) (s .log) })) → Promise c z (next s k)
+  tested k t u q n e f =
+      subst (λ (y : Reply Msgq). Promise c z (record { queue = left y Q; log = note k (answer y) (out k Q) (s .log) })) (sym e) (go t u f)
+    where
+      go : (t u : Bool) → (t ≡ true → u ≡ true → Promise c z (record { queue = q; log = noted k (out k Q) (s .log) }))
+          → Promise c z
+          (record {
+            queue = left (given t (carry (λ (x : Numbers). q) (cond u (accept n ok) (refuse enomsg)))) Q;
+            log = note k (answer (given t (carry (λ (x : Numbers). q) (cond u (accept n ok) (refuse enomsg))))) (out k Q) (s .log);
+          })
+      go true true f = f refl refl
+      go true false f = p
+      go false u f = p
+
+  pub step : (k : Call) → Promise c z (next s k)
+  step (put m) =
+      tested (put m) (eqb (length m) (Q .size)) (ltb (used Q) (max Q)) (having (append (m ∷ []) (Q .ring)) Q) (now (wrap (writeIdx Q + 1) (max Q)) (used Q + 1)) refl
+      (λ t u. let f = ltb-true (used Q) (max Q) u in
+      let e = eqb-true (length m) (Q .size) t in
+      record { good = good-put c z Q (p .good) m (omega (arith, p .good .max)) (e ∙ p .good .size); line = line-put (s .log .got) (Q .ring .held) (s .log .line) m (p .line) })
+  step (putFront m) =
+      tested (putFront m) (eqb (length m) (Q .size)) (ltb (used Q) (max Q)) (having (lead m (Q .ring)) Q) (now (wrap (readIdx Q + (max Q - 1)) (max Q)) (used Q + 1)) refl
+      (λ t u. let f = ltb-true (used Q) (max Q) u in
+      let e = eqb-true (length m) (Q .size) t in
+      record {
+        good = good-front c z Q (p .good) m (omega (arith, p .good .max)) (e ∙ p .good .size);
+        line = line-front (s .log .got) (Q .ring .held) (s .log .line) m (p .line);
+      })
+  step (get n) =
+      tested (get n) (eqb n (Q .size)) (ltb 0 (used Q)) (having (leave 1 (Q .ring)) Q) (now (wrap (readIdx Q + 1) (max Q)) (used Q - 1)) refl
+      (λ t u. let f = ltb-true 0 (used Q) u in
+      record {
+        good = good-leave c z Q (p .good) 1 f;
+        line = rw t (line-get (s .log .got) (Q .ring .held) (s .log .line) f (p .line));
+      })
+  step purge =
+      record { good = good-leave c z Q (p .good) (used Q) (omega arith); line = line-purge (s .log .got) (Q .ring .held) (s .log .line) (p .line) }
