@@ -12,12 +12,12 @@ use Rattle.thread.specs.Code.{ok, enomsg}
 use Rattle.store.specs.Store.{accept, refuse, answer, carry}
 use Rattle.ring_buf.specs.Ring.{wrap}
 use Rattle.ring_buf.specs.Bytes.{numbers}
-use Rattle.ring_buf.proofs.Rings.{wrap-wrap}
 use Rattle.msgq.specs.Msgq.{Msgq, max, used, readIdx, writeIdx, put, putFront, get, peek}
 use Rattle.msgq.specs.Post.{putDecision, getDecision, putFrontDecision, peekDecision}
 use Rattle.msgq.specs.History.{Good}
 use Rattle.msgq.specs.Agreement.{By, Agrees}
 use Rattle.msgq.proofs.Headers.{is-within}
+use Rattle.msgq.proofs.Calls.{write-next}
 
 module _ (c z : ℕ) (q : Msgq) (g : Good c z q) where
   few : used q ≤ max q
@@ -35,12 +35,11 @@ module _ (c z : ℕ) (q : Msgq) (g : Good c z q) where
       go : (b : Bool) → ltb (used q) (max q) ≡ b → By (put m q) q writeIdx (putDecision (writeIdx q) (used q) (max q) false true)
       go true u =
           let f = ltb-true (used q) (max q) u in
-          let x : length (q .ring .held ++ m ∷ []) ≡ used q + 1 = length-append (q .ring .held) (m ∷ []) in
           rw (write-within, eq-eqb (length m) (q .size) e, u)
           (record {
             code = refl;
-            idx = ap (λ (n : ℕ). wrap (readIdx q + n) (max q)) x ∙ sym (wrap-wrap (readIdx q) (used q) 1 (max q) (omega (arith, g .read, g .max)) (omega arith));
-            used = x;
+            idx = write-next c z q g m (e ∙ g .size) (omega (arith, g .max));
+            used = length-append (q .ring .held) (m ∷ []);
           })
       go false u = rw (write-within, eq-eqb (length m) (q .size) e, u) (record { code = refl; idx = refl; used = refl })
 

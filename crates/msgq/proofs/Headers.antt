@@ -81,7 +81,7 @@ module _ (h b : List ℕ) where
   is-sound s =
       sound-is (s .words) ∙ (λ i. cond (is-within (getD h 0 0) (getD h 1 0) (getD h 2 0) (s .within) i) (is-roomy (getD h 3 0) (getD h 0 0) b (s .room) i) false)
 
-  from-sound : sound h b ≡ true → Sound
+  pub from-sound : sound h b ≡ true → Sound
   from-sound e =
       let x = both-true (leb 4 (length h)) _ e in
       let y = both-true (numbers (getD h 0 0) (getD h 1 0) (getD h 2 0)) _ (x .1) in

@@ -10,7 +10,7 @@ use Rattle.seq.specs.List.{All}
 use Rattle.seq.proofs.Order.{clash}
 use Rattle.thread.specs.Code.{ok}
 use Rattle.store.specs.Store.{Reply, refuse, accept, answer, After, Did, handed, Started}
-use Rattle.store.proofs.Laws.{replies, handed-is}
+use Rattle.store.proofs.Laws.{replies, answers, handed-is}
 use Rattle.ring_buf.proofs.Rings.{wrap-below, length-turn}
 use Rattle.msgq.specs.Messages.{slots}
 use Rattle.msgq.specs.Msgq.{Msgq}
@@ -48,25 +48,26 @@ first-in-first-out c z b ks f a = always c z b ks f .line ∙ all-sent (record {
 
 -- ---- in memory
 
-leaves : (k : Call) (y : Reply Msgq) (h b h' b' : List ℕ) → messages .formed h b ≡ true → After messages y h b h' b'
+leaves : (y : Reply Msgq) (h b h' b' : List ℕ) → messages .formed h b ≡ true → After messages y h b h' b'
     → (messages .formed h' b' ≡ true) × (messages .object h' b' ≡ left y (messages .object h b))
-leaves k (refuse r) h b h' b' e a = rw (a .0, a .1) (e, refl)
-leaves k (accept s r) h b h' b' e a = (a .formed, a .object)
+leaves (refuse r) h b h' b' e a = rw (a .0, a .1) (e, refl)
+leaves (accept s r) h b h' b' e a = (a .formed, a .object)
+
+pub in-memory : (k : Call) {r : ℤ} (h b h' b' : List ℕ) → messages .formed h b ≡ true → Did messages (does k) h b r h' b'
+    → (messages .formed h' b' ≡ true) × (messages .object h' b' ≡ left (does k (messages .object h b)) (messages .object h b))
+in-memory k h b h' b' e d =
+    leaves (does k (messages .object h b)) h b h' b' e (subst (λ (y : Reply Msgq). After messages y h b h' b') (replies messages (does k) h b e) (d .after))
 
 one : (k : Call) (r : ℤ) (h b h' b' : List ℕ) (l : Log) → messages .formed h b ≡ true → Did messages (does k) h b r h' b'
-    → (messages .formed h' b' ≡ true) × (at h' b' (note k r (handed messages (out k) h b) l) ≡ next (at h b l) k)
+    → at h' b' (note k r (handed messages (out k) h b) l) ≡ next (at h b l) k
 one k r h b h' b' l e d =
-    let o = messages .object h b in
-    let v = replies messages (does k) h b e in
-    let x = leaves k (does k o) h b h' b' e (subst (λ (y : Reply Msgq). After messages y h b h' b') v (d .after)) in
-    (x .0, λ i. record { queue = x .1 i; log = note k ((d .code ∙ ap answer v) i) (handed-is messages h b (out k) e i) l })
+    λ i. record { queue = in-memory k h b h' b' e d .1 i; log = note k (answers messages (does k) h b d e i) (handed-is messages h b (out k) e i) l }
 
 pub kept : {h b h' b' : List ℕ} {l l' : Log} {ks : List Call} → messages .formed h b ≡ true → Made h b l ks h' b' l' → Kept h b l ks h' b' l'
 kept e none-made = record { formed = e; is = refl }
 kept e (made k r {ks} {h} {b} {h₁} {b₁} {h'} {b'} {l} {l'} d m) =
-    let x = one k r h b h₁ b₁ l e d in
-    let y = kept (x .0) m in
-    record { formed = y .formed; is = y .is ∙ ap (λ (s : State). run s ks) (x .1) }
+    let y = kept (in-memory k h b h₁ b₁ e d .0) m in
+    record { formed = y .formed; is = y .is ∙ ap (λ (s : State). run s ks) (one k r h b h₁ b₁ l e d) }
 
 -- after an init that is answered 0, and any calls
 pub from-init : (c z : ℕ) (h b h₀ b₀ h' b' : List ℕ) (l' : Log) (ks : List Call) → Started messages (may z c b) (new z c b) h b ok h₀ b₀ → Made h₀ b₀ nothing ks h' b' l'

@@ -3,7 +3,14 @@ pub mod Headers
 pub mod Places
 pub mod Answers
 pub mod Decisions
+pub mod Calls
 pub mod Steps
 pub mod Histories
 pub mod Agreements
 pub mod HandOvers
+pub mod Implied
+pub mod Deciding
+pub mod Lemmas
+pub mod Memory
+pub mod Upstream
+pub mod Others

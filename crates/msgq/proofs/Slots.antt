@@ -8,6 +8,7 @@ use native.Mathlib.Omega.{arith}
 use lib.ListN.{length, take, drop, getD, set, length-take, length-drop, length-append}
 use lib.Seq.{take-append-le, drop-append-le, take-take, drop-drop, take-all, take-at, drop-at, getD-take, getD-drop, take-length, set-split, append-snoc, paste}
 use borrow.Rule.Slice.PartMut.{putMid}
+use Rattle.seq.specs.List.{All}
 use Rattle.store.specs.Store.{Filled}
 use Rattle.ring_buf.specs.Ring.{wrap, turn}
 use Rattle.ring_buf.proofs.Rings.{drop-take, turn-part, wrap-below}
@@ -66,6 +67,12 @@ slot-at size (suc n) (suc i) b f =
 
 pub slot-long : (size n i : ℕ) (b : List ℕ) → i < n → n * size ≤ length b → length (take size (drop (i * size) b)) ≡ size
 slot-long size n i b f room = length-take size (drop (i * size) b) ∙ omega (arith, length-drop (i * size) b, slot-room size n i f)
+
+pub all-slots : (size n : ℕ) (b : List ℕ) → n * size ≤ length b → All (λ (m : List ℕ). length m ≡ size) (slots size n b)
+unfolding slots
+all-slots size zero b f = tt
+all-slots size (suc n) b f =
+    (length-take size b ∙ omega (arith, suc-mul n size), all-slots size n (drop size b) (simp length-drop (omega (arith, suc-mul n size))))
 
 -- a message written to the slot i is the message there, and the others stay
 slot-set : (size n i : ℕ) (b m : List ℕ) → i < n → length m ≡ size → n * size ≤ length b → slots size n (paste b (i * size) m size) ≡ set (slots size n b) i m

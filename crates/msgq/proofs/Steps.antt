@@ -2,7 +2,7 @@
 use mathlib.Core.Path.{_≡_, refl, sym, ap, subst, _∙_}
 use mathlib.Core.Bool.{Bool, true, false, cond}
 use mathlib.Core.List.{List, [], _∷_, _++_, append-assoc, append-nil}
-use Prim.Native.Nat.{ℕ, suc, _+_, _-_, _≤_, _<_}
+use Prim.Native.Nat.{ℕ, zero, suc, _+_, _-_, _≤_, _<_}
 use native.Mathlib.Omega.{arith}
 use borrow.Author.Tests.{ltb-true, eqb-true}
 use lib.Dec.{eqb, ltb}
@@ -17,9 +17,14 @@ use Rattle.ring_buf.proofs.Rings.{wrap-below}
 use Rattle.msgq.specs.Msgq.{Msgq, Numbers, now, having, max, used, readIdx, writeIdx, given}
 use Rattle.msgq.specs.History.{Call, put, putFront, get, purge, does, out, left, noted, note, State, next, Good, Promise}
 
-pub all-behind : {A : Type 0} (P : A → Type 0) (l : List A) (x : A) → All P l → P x → All P (l ++ x ∷ [])
-all-behind P [] x a p = (p, tt)
-all-behind P (y ∷ l) x a p = (a .0, all-behind P l x (a .1) p)
+pub all-append : {A : Type 0} (P : A → Type 0) (l k : List A) → All P l → All P k → All P (l ++ k)
+all-append P [] k a b = b
+all-append P (x ∷ l) k a b = (a .0, all-append P l k (a .1) b)
+
+pub all-at : {A : Type 0} (P : A → Type 0) (l : List A) (i : ℕ) (d : A) → All P l → i < length l → P (getD l i d)
+all-at P [] i d a f = absurd (omega arith)
+all-at P (x ∷ l) zero d a f = a .0
+all-at P (x ∷ l) (suc i) d a f = all-at P l i d (a .1) (omega arith)
 
 -- what is left of a queue, by its parts
 module _ (c z : ℕ) (q : Msgq) (g : Good c z q) where
@@ -41,7 +46,7 @@ module _ (c z : ℕ) (q : Msgq) (g : Good c z q) where
   pub good-put : (m : List ℕ) → used q < c → length m ≡ z → Good c z (having (append (m ∷ []) (q .ring)) q)
   good-put m f e =
       good (append (m ∷ []) (q .ring)) (g .max) (g .read) (simp (length-append, length-drop) (omega (arith, g .slots)))
-      (all-behind (λ (x : List ℕ). length x ≡ z) H m (g .messages) e)
+      (all-append (λ (x : List ℕ). length x ≡ z) H (m ∷ []) (g .messages) (e, tt))
 
   pub good-front : (m : List ℕ) → used q < c → length m ≡ z → Good c z (having (lead m (q .ring)) q)
   good-front m f e =

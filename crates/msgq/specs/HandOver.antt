@@ -12,8 +12,7 @@ use Rattle.thread.specs.Code.{einval}
 use Rattle.store.specs.Store.{Reply, accept, refuse, answer}
 use Rattle.msgq.specs.Msgq.{Msgq, Numbers, now, wakesReader, wakesWriter, max, used, readIdx, writeIdx, put, get}
 use Rattle.msgq.specs.Post.{putDecision, getDecision}
-use Rattle.msgq.specs.History.{left, Good, State, run}
-use Rattle.msgq.specs.History as calls
+use Rattle.msgq.specs.History.{left, Good}
 
 pub record Waited : Type 0 where
   pub queue : Msgq
@@ -27,13 +26,13 @@ pub record Waited : Type 0 where
 
 -- a put and a get, whose caller waits if need be, or does not
 pub data Event : Type 0 where
-  puts : (m : List ℕ) (noWait : Bool) → Event
-  gets : (noWait : Bool) → Event
+  putting : (m : List ℕ) (noWait : Bool) → Event
+  getting : (noWait : Bool) → Event
 
 -- told the numbers of the queue, and whether somebody waits on the other side
 abbrev pub decision : Event → Waited → Reply Numbers
-decision (puts m k) s = putDecision (writeIdx (s .queue)) (used (s .queue)) (max (s .queue)) (ltb 0 (s .readers)) k
-decision (gets k) s = getDecision (readIdx (s .queue)) (used (s .queue)) (max (s .queue)) (any (s .writers)) k
+decision (putting m k) s = putDecision (writeIdx (s .queue)) (used (s .queue)) (max (s .queue)) (ltb 0 (s .readers)) k
+decision (getting k) s = getDecision (readIdx (s .queue)) (used (s .queue)) (max (s .queue)) (any (s .writers)) k
 
 abbrev pub stored : List ℕ → Msgq → Msgq
 stored m q = left (put m q) q
@@ -49,16 +48,16 @@ refilled (w ∷ ws) q = stored w q
 -- what the answer c tells the caller to do
 abbrev pub done : Event → ℕ → Waited → Waited
 -- store the message
-done (puts m k) zero s = record { queue = stored m (s .queue); readers = s .readers; writers = s .writers; sent = s .sent ++ m ∷ []; got = s .got }
+done (putting m k) zero s = record { queue = stored m (s .queue); readers = s .readers; writers = s .writers; sent = s .sent ++ m ∷ []; got = s .got }
 -- hand it to a reader: the queue is not touched
-done (puts m k) (suc zero) s = record { queue = s .queue; readers = s .readers - 1; writers = s .writers; sent = s .sent ++ m ∷ []; got = s .got ++ m ∷ [] }
+done (putting m k) (suc zero) s = record { queue = s .queue; readers = s .readers - 1; writers = s .writers; sent = s .sent ++ m ∷ []; got = s .got ++ m ∷ [] }
 -- wait
-done (puts m k) (suc (suc c)) s = record { queue = s .queue; readers = s .readers; writers = s .writers ++ m ∷ []; sent = s .sent ++ m ∷ []; got = s .got }
+done (putting m k) (suc (suc c)) s = record { queue = s .queue; readers = s .readers; writers = s .writers ++ m ∷ []; sent = s .sent ++ m ∷ []; got = s .got }
 -- read the first message
-done (gets k) zero s =
+done (getting k) zero s =
     record { queue = read (s .queue); readers = s .readers; writers = s .writers; sent = s .sent; got = s .got ++ getD (s .queue .ring .held) 0 [] ∷ [] }
 -- read it, and then let the first writer put its own
-done (gets k) (suc zero) s =
+done (getting k) (suc zero) s =
     record {
       queue = refilled (s .writers) (read (s .queue));
       readers = s .readers;
@@ -67,7 +66,7 @@ done (gets k) (suc zero) s =
       got = s .got ++ getD (s .queue .ring .held) 0 [] ∷ [];
     }
 -- wait
-done (gets k) (suc (suc c)) s = record { queue = s .queue; readers = suc (s .readers); writers = s .writers; sent = s .sent; got = s .got }
+done (getting k) (suc (suc c)) s = record { queue = s .queue; readers = suc (s .readers); writers = s .writers; sent = s .sent; got = s .got }
 
 -- a refusal: nothing
 abbrev pub told : Event → ℤ → Waited → Waited
@@ -83,8 +82,8 @@ ends s (e ∷ es) = ends (happens s e) es
 
 -- messages are of the queue's size
 abbrev pub Sized : ℕ → Event → Type 0
-Sized z (puts m k) = length m ≡ z
-Sized z (gets k) = Unit {0}
+Sized z (putting m k) = length m ≡ z
+Sized z (getting k) = Unit {0}
 
 -- after any events
 pub record Fair (c z : ℕ) (s : Waited) : Type 0 where

@@ -4,3 +4,4 @@ pub mod Post
 pub mod History
 pub mod Agreement
 pub mod HandOver
+pub mod Upstream

@@ -1,0 +1,95 @@
+-- Our contracts imply those of Gale's msgq.rs: the calls that change the queue or hand out a message. Assumes nothing.
+use mathlib.Core.Path.{_≡_, sym, ap, subst, _∙_}
+use mathlib.Core.Bool.{true}
+use mathlib.Core.List.{List, [], _∷_, _++_, append-nil}
+use Prim.Native.Nat.{ℕ, suc, _+_, _<_}
+use native.Mathlib.Omega.{arith}
+use borrow.Author.Tests.{eq-eqb}
+use lib.IntN.{ℤ}
+use lib.ListN.{length, getD, length-append, drop-of-length-le}
+use lib.Seq.{getD-append-seam}
+use Rattle.store.specs.Store.{Reply, answer, reply, Did, handed, Filled}
+use Rattle.store.proofs.Laws.{answers, replies}
+use Rattle.ring_buf.specs.Ring.{wrap, append, lead}
+use Rattle.msgq.specs.Msgq.{Msgq, having, max, used, readIdx, writeIdx, put, putFront, get, peek, seen, purge}
+use Rattle.msgq.specs.Post.{sound, held, messages}
+use Rattle.msgq.specs.History.{Call, does, left, Good}
+use Rattle.msgq.specs.History as calls
+use Rattle.msgq.specs.Upstream.{Inv, Housed, Put, PutFront, Get, InSlot, PeekAt, Purge}
+use Rattle.msgq.proofs.Calls.{stores, front-yes}
+use Rattle.msgq.proofs.Steps.{all-at}
+use Rattle.msgq.proofs.Histories.{in-memory}
+use Rattle.msgq.proofs.Implied.{put-does, front-does, get-does, peek-does, purge-does}
+use Rattle.msgq.proofs.Memory.{memory-good, inv-formed, slot-of, first-slot}
+
+-- a place that is filled whole
+whole : (l o o' : List ℕ) → length l ≡ length o → Filled l o o' → o' ≡ l
+whole l o o' e f = f ∙ ap (λ (x : List ℕ). l ++ x) (drop-of-length-le o {i = length l} (omega arith)) ∙ append-nil l
+
+module _ (h b : List ℕ) (w : ℕ) (k : Housed h b) (i : Inv (getD h 3 0) (getD h 0 0) (getD h 1 0) w (getD h 2 0)) where
+  abbrev Q : Msgq
+  Q = held h b
+
+  right : sound h b ≡ true
+  right = inv-formed h b w k i
+
+  G : Good (getD h 0 0) (getD h 3 0) Q
+  G = memory-good h b right
+
+  module _ (r : ℤ) (h' b' : List ℕ) where
+    -- what holds of the call holds of the memory
+    holds : (c : Call) (R : ℤ → Msgq → Type 0) → Did messages (does c) h b r h' b' → R (answer (does c Q)) (left (does c Q) Q) → R r (held h' b')
+    holds c R d a =
+        subst (R r) (sym (in-memory c h b h' b' right d .1)) (subst (λ (z : ℤ). R z (left (does c Q) Q)) (sym (answers messages (does c) h b d right)) a)
+
+    pub msgq-put : (m : List ℕ) → length m ≡ getD h 3 0 → Did messages (put m) h b r h' b' → Put Q r (held h' b')
+    msgq-put m e d = holds (calls.put m) (Put Q) d (put-does (getD h 0 0) (getD h 3 0) Q (i .some-bytes) G m e)
+
+    pub msgq-put-front : (m : List ℕ) → length m ≡ getD h 3 0 → Did messages (putFront m) h b r h' b' → PutFront Q r (held h' b')
+    msgq-put-front m e d = holds (calls.putFront m) (PutFront Q) d (front-does (getD h 0 0) (getD h 3 0) Q (i .some-bytes) G m e)
+
+    pub msgq-get : (n : ℕ) → n ≡ getD h 3 0 → Did messages (get n) h b r h' b' → Get Q r (held h' b')
+    msgq-get n e d =
+        holds (calls.get n) (Get Q) d
+        (subst (λ (x : ℕ). Get Q (answer (get x Q)) (left (get x Q) Q)) (sym e) (get-does (getD h 0 0) (getD h 3 0) Q (i .some-bytes) G))
+
+    pub msgq-purge : Did messages purge h b r h' b' → Purge Q r (held h' b')
+    msgq-purge d = holds calls.purge (Purge Q) d (purge-does (getD h 0 0) (getD h 3 0) Q (i .some-bytes) G)
+
+    -- the slots
+    pub put-slot : (m : List ℕ) → length m ≡ getD h 3 0 → used Q < max Q → Did messages (put m) h b r h' b' → InSlot (writeIdx Q) m (held h' b') b'
+    put-slot m e f d =
+        let x : held h' b' ≡ having (append (m ∷ []) (Q .ring)) Q = in-memory (calls.put m) h b h' b' right d .1 ∙ stores (getD h 0 0) (getD h 3 0) Q G m e f in
+        let n : used (held h' b') ≡ used Q + 1 = ap used x ∙ length-append (Q .ring .held) (m ∷ []) in
+        let y : getD (held h' b' .ring .held) (used Q) [] ≡ m = ap (λ (q : Msgq). getD (q .ring .held) (used Q) []) x ∙ getD-append-seam (Q .ring .held) m [] [] in
+        let v : wrap (getD h' 1 0 + used Q) (getD h' 0 0) ≡ writeIdx Q = ap (λ (q : Msgq). wrap (readIdx q + used Q) (max q)) x in
+        subst (λ (t : ℕ). InSlot t m (held h' b') b') v
+        (subst (λ (t : List ℕ). InSlot (wrap (getD h' 1 0 + used Q) (getD h' 0 0)) t (held h' b') b') y
+        (slot-of h' b' (in-memory (calls.put m) h b h' b' right d .0) (used Q) (omega arith)))
+
+    pub front-slot : (m : List ℕ) → length m ≡ getD h 3 0 → used Q < max Q → Did messages (putFront m) h b r h' b' → InSlot (readIdx (held h' b')) m (held h' b') b'
+    front-slot m e f d =
+        let x : held h' b' ≡ having (lead m (Q .ring)) Q =
+        in-memory (calls.putFront m) h b h' b' right d .1 ∙ ap (λ (y : Reply Msgq). left y Q) (front-yes (getD h 0 0) (getD h 3 0) Q G m e f) in
+        let n : used (held h' b') ≡ suc (used Q) = ap used x in
+        let y : getD (held h' b' .ring .held) 0 [] ≡ m = ap (λ (q : Msgq). getD (q .ring .held) 0 []) x in
+        subst (λ (t : List ℕ). InSlot (getD h' 1 0) t (held h' b') b') y (first-slot h' b' (in-memory (calls.putFront m) h b h' b' right d .0) (omega arith))
+
+  -- what is handed out is the message
+  handed-out : (n : ℕ) (o o' : List ℕ) → length o ≡ getD h 3 0 → n < used Q → Filled (handed messages (seen (length o) n) h b) o o' → o' ≡ getD (Q .ring .held) n []
+  handed-out n o o' e f d =
+      let m = getD (Q .ring .held) n [] in
+      let x : handed messages (seen (length o) n) h b ≡ m = rw (right, eq-eqb (length o) (getD h 3 0) e) in
+      whole m o o' (all-at (λ (t : List ℕ). length t ≡ getD h 3 0) (Q .ring .held) n [] (G .messages) f ∙ sym e) (subst (λ (t : List ℕ). Filled t o o') x d)
+
+  pub get-slot : (o o' : List ℕ) → length o ≡ getD h 3 0 → 0 < used Q → Filled (handed messages (seen (length o) 0) h b) o o' → InSlot (readIdx Q) o' Q b
+  get-slot o o' e f d = subst (λ (t : List ℕ). InSlot (readIdx Q) t Q b) (sym (handed-out 0 o o' e f d)) (first-slot h b right f)
+
+  pub peek-slot : (n : ℕ) (o o' : List ℕ) → length o ≡ getD h 3 0 → n < used Q → Filled (handed messages (seen (length o) n) h b) o o'
+      → InSlot (wrap (readIdx Q + n) (max Q)) o' Q b
+  peek-slot n o o' e f d = subst (λ (t : List ℕ). InSlot (wrap (readIdx Q + n) (max Q)) t Q b) (sym (handed-out n o o' e f d)) (slot-of h b right n f)
+
+  pub msgq-peek-at : (n : ℕ) (o : List ℕ) (r : ℤ) → length o ≡ getD h 3 0 → r ≡ answer (reply messages (peek (length o) n) h b) → PeekAt n Q r
+  msgq-peek-at n o r e d =
+      subst (PeekAt n Q) (sym (d ∙ ap answer (replies messages (peek (length o) n) h b right) ∙ ap (λ (x : ℕ). answer (peek x n Q)) e))
+      (peek-does (getD h 0 0) (getD h 3 0) Q (i .some-bytes) G n)
