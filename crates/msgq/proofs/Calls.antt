@@ -1,11 +1,10 @@
 -- What a call on a queue does, where it is not refused and where it is; and its indices then. Assumes nothing.
 use mathlib.Core.Path.{_≡_, refl, sym, ap, _∙_}
-use mathlib.Core.Bool.{true, false}
-use mathlib.Core.List.{List, [], _∷_, _++_}
+use mathlib.Core.List.{List, [], _∷_}
 use Prim.Native.Nat.{ℕ, suc, _+_, _-_, _≤_, _<_}
 use native.Mathlib.Omega.{arith}
 use borrow.Author.Tests.{lt-ltb, le-ltb, eq-eqb}
-use lib.ListN.{length, drop, length-append, length-drop}
+use lib.ListN.{length, length-append, length-drop}
 use Rattle.thread.specs.Code.{ok, enomsg}
 use Rattle.store.specs.Store.{Reply, accept, refuse}
 use Rattle.ring_buf.specs.Ring.{wrap, append, lead, leave}

@@ -6,14 +6,13 @@ use native.Mathlib.Omega.{arith}
 use borrow.Author.Tests.{eq-eqb, lt-ltb, le-ltb}
 use lib.IntN.{ℤ}
 use Rattle.store.specs.Store.{Reply, accept, refuse, answer, settled}
-use Rattle.thread.specs.Code.{ok, enomsg}
+use Rattle.thread.specs.Code.{ok}
 use Rattle.ring_buf.specs.Ring.{wrap}
-use Rattle.ring_buf.specs.Bytes.{numbers}
 use Rattle.ring_buf.proofs.Rings.{wrap-low, wrap-high, wrap-below}
-use Rattle.msgq.specs.Msgq.{Numbers, now, stored, wakesReader, isRead, wakesWriter, pends}
+use Rattle.msgq.specs.Msgq.{Numbers, now}
 use Rattle.msgq.specs.Post.{sane, putDecision, getDecision, putFrontDecision, peekDecision, Decided, Found}
 use Rattle.msgq.specs.Upstream.{nextIdx, prevIdx, PutDecide, GetDecide, PutFrontDecide, PeekAtDecide}
-use Rattle.msgq.proofs.Headers.{Within, is-within}
+use Rattle.msgq.proofs.Headers.{is-within}
 use Rattle.msgq.proofs.Decisions.{put-refuses, put-pends, put-wakes, put-stores, get-refuses, get-pends, get-wakes, get-reads, lead-refuses, lead-stores}
 use Rattle.msgq.proofs.Implied.{next-is, prev-is}
 
@@ -24,14 +23,16 @@ by-both false f g = g refl
 -- a decision that is told
 module _ {y : Reply Numbers} {i u : ℕ} {r : ℤ} {i' u' : ℕ} (d : Decided y i u r i' u') where
   told : {a n : ℕ} {c : ℤ} → y ≡ accept (now a n) c → (r ≡ c) × ((i' ≡ a) × (u' ≡ n))
-  told e =
-      (d .code ∙ ap answer e,
-      (d .idx ∙ ap (λ (x : Reply Numbers). settled (λ (v : Numbers). v .idx) x i) e, d .used ∙ ap (λ (x : Reply Numbers). settled (λ (v : Numbers). v .used) x u) e))
+  told e = (
+    d .code ∙ ap answer e,
+    (d .idx ∙ ap (λ (x : Reply Numbers). settled (λ (v : Numbers). v .idx) x i) e, d .used ∙ ap (λ (x : Reply Numbers). settled (λ (v : Numbers). v .used) x u) e),
+  )
 
   kept : {c : ℤ} → y ≡ refuse c → (r ≡ c) × ((i' ≡ i) × (u' ≡ u))
-  kept e =
-      (d .code ∙ ap answer e,
-      (d .idx ∙ ap (λ (x : Reply Numbers). settled (λ (v : Numbers). v .idx) x i) e, d .used ∙ ap (λ (x : Reply Numbers). settled (λ (v : Numbers). v .used) x u) e))
+  kept e = (
+    d .code ∙ ap answer e,
+    (d .idx ∙ ap (λ (x : Reply Numbers). settled (λ (v : Numbers). v .idx) x i) e, d .used ∙ ap (λ (x : Reply Numbers). settled (λ (v : Numbers). v .used) x u) e),
+  )
 
 module _ (t n c : ℕ) (w : Bool) (f : t < c) (g : n ≤ c) where
   idle : (m : ℕ) → (w ≡ true → n ≡ m) → sane t n c w m ≡ true
@@ -62,7 +63,7 @@ module _ (t n c : ℕ) (w : Bool) (f : t < c) (g : n ≤ c) where
           wakes = λ x y. told d (get-wakes t n c w k s (nextIdx t c) (λ z. absurd (omega arith)) y (sym v));
           reads = λ x y. told d (get-reads t n c w k s (nextIdx t c) (λ z. absurd (omega arith)) y (sym v));
           within = λ x. by-both w (λ y. omega (arith, told d (get-wakes t n c w k s (wrap (t + 1) c) (λ z. absurd (omega arith)) y refl) .1 .0, wrap-below (t + 1) c (omega arith)))
-            (λ y. omega (arith, told d (get-reads t n c w k s (wrap (t + 1) c) (λ z. absurd (omega arith)) y refl) .1 .0, wrap-below (t + 1) c (omega arith)));
+              (λ y. omega (arith, told d (get-reads t n c w k s (wrap (t + 1) c) (λ z. absurd (omega arith)) y refl) .1 .0, wrap-below (t + 1) c (omega arith)));
           empty = λ x y. kept d (get-refuses t n c w k s x y);
           waits = λ x y. let a = told d (get-pends t n c w k s x y) in (a .0, (a .1 .0, a .1 .1 ∙ x));
         }

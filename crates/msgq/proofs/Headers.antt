@@ -1,13 +1,13 @@
 -- A queue's header and buffer: what is tested, and what then holds. Assumes nothing.
-use mathlib.Core.Path.{_≡_, refl, sym, ap, _∙_}
+use mathlib.Core.Path.{_≡_, sym, _∙_}
 use mathlib.Core.Bool.{Bool, true, false, cond, not}
-use mathlib.Core.List.{List, [], _∷_}
+use mathlib.Core.List.{List}
 use Prim.Native.Nat.{ℕ, _*_, _≤_, _<_}
 use native.Mathlib.Omega.{arith}
 use native.Mathlib.Nat.{mul-le-mul}
 use borrow.Author.Tests.{lt-ltb, le-ltb, lt-leb, le-leb, leb-true, ltb-true, eqb-true, not-true, not-false}
 use lib.Dec.{ltb, leb, eqb}
-use lib.ListN.{length, drop, getD, set}
+use lib.ListN.{length, getD}
 use Rattle.store.proofs.Laws.{both-true}
 use Rattle.ring_buf.specs.Bytes.{numbers}
 use Rattle.msgq.specs.Post.{room, sound, takes, sane}

@@ -1,17 +1,14 @@
 -- What a call does to a queue implies upstream's clauses. Assumes nothing.
-use mathlib.Core.Path.{_≡_, refl, sym, ap, subst, _∙_}
-use mathlib.Core.Bool.{Bool, true, false, cond}
-use mathlib.Core.List.{List, [], _∷_, _++_}
-use Prim.Native.Nat.{ℕ, suc, _+_, _-_, _≤_, _<_}
+use mathlib.Core.Path.{_≡_, refl, sym, subst, _∙_}
+use mathlib.Core.List.{List, [], _∷_}
+use Prim.Native.Nat.{ℕ, _+_, _-_, _<_}
 use native.Mathlib.Omega.{arith}
 use native.Mathlib.Numerals.{add-one}
-use borrow.Author.Tests.{lt-ltb, le-ltb, eq-eqb, ne-eqb, ltb-true, ltb-false}
-use lib.Dec.{ltb, eqb}
-use lib.IntN.{pos}
-use lib.ListN.{length, drop, length-append, length-drop}
-use Rattle.thread.specs.Code.{ok, enomsg}
-use Rattle.store.specs.Store.{Reply, accept, refuse, answer}
-use Rattle.ring_buf.specs.Ring.{Ring, wrap, append, lead, leave}
+use borrow.Author.Tests.{lt-ltb, le-ltb, eq-eqb, ne-eqb}
+use lib.ListN.{length, length-append, length-drop}
+use Rattle.thread.specs.Code.{ok}
+use Rattle.store.specs.Store.{Reply, answer}
+use Rattle.ring_buf.specs.Ring.{wrap, append, lead, leave}
 use Rattle.ring_buf.proofs.Rings.{by-lt, wrap-low, wrap-high}
 use Rattle.msgq.specs.Msgq.{Msgq, having, max, used, readIdx, writeIdx, put, putFront, get, peek, purge}
 use Rattle.msgq.specs.History.{left, Good}

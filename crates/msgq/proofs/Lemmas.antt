@@ -1,12 +1,12 @@
 -- What upstream's lemmas that end in `ensures true` say. Assumes nothing.
-use mathlib.Core.Path.{_≡_, refl, sym, ap, subst, _∙_}
+use mathlib.Core.Path.{_≡_, refl, sym, ap, _∙_}
 use mathlib.Core.Bool.{true}
-use mathlib.Core.List.{List, [], _∷_, _++_, append-assoc, append-nil, map}
+use mathlib.Core.List.{List, [], _∷_, _++_, append-nil, map}
 use Prim.Native.Nat.{ℕ, zero, suc, _+_, _-_, _≤_, _<_}
 use native.Mathlib.Nat.{add-zero}
 use native.Mathlib.Omega.{arith}
 use lib.Seq.{append-snoc}
-use lib.ListN.{length, drop, length-append, length-drop, replicate}
+use lib.ListN.{length, length-append, length-drop, replicate}
 use Rattle.seq.specs.List.{All}
 use Rattle.thread.specs.Code.{ok}
 use Rattle.store.specs.Store.{Reply, accept, answer}
@@ -17,10 +17,10 @@ use Rattle.msgq.specs.Post.{new}
 use Rattle.msgq.specs.Msgq as queue
 use Rattle.msgq.specs.History.{Call, put, get, out, left, note, simple, nothing, State, next, run, Good, Promise}
 use Rattle.msgq.specs.HandOver.{stored, read}
-use Rattle.msgq.specs.Upstream.{nextIdx, Inductive, Roundtrip, drained, FillDrain}
+use Rattle.msgq.specs.Upstream.{Inductive, Roundtrip, drained, FillDrain}
 use Rattle.msgq.proofs.Calls.{put-yes, get-yes, stores, reads, write-next, write-left}
-use Rattle.msgq.proofs.Steps.{good-put, good-leave, step}
-use Rattle.msgq.proofs.Histories.{promised, new-good, always, first-in-first-out}
+use Rattle.msgq.proofs.Steps.{good-put, step}
+use Rattle.msgq.proofs.Histories.{always, first-in-first-out}
 use Rattle.msgq.proofs.Implied.{next-is, good-inv}
 
 pub invariant-inductive : (size c : ℕ) (b : List ℕ) → 0 < size → 0 < c → Inductive size c b
@@ -95,10 +95,10 @@ fill-drain-symmetric size c b ms f a g =
     record {
       empty = e;
       met = sym (ap (λ (k : ℕ). wrap (readIdx (drained size c b ms .queue) + k) (max (drained size c b ms .queue))) e
-        ∙ ap (λ (k : ℕ). wrap k (max (drained size c b ms .queue))) (add-zero (readIdx (drained size c b ms .queue)))
-        ∙ wrap-low (readIdx (drained size c b ms .queue)) (max (drained size c b ms .queue)) (omega (arith, p .good .read, p .good .max)));
+          ∙ ap (λ (k : ℕ). wrap k (max (drained size c b ms .queue))) (add-zero (readIdx (drained size c b ms .queue)))
+          ∙ wrap-low (readIdx (drained size c b ms .queue)) (max (drained size c b ms .queue)) (omega (arith, p .good .read, p .good .max)));
       order =
-        sym (none-left (drained size c b ms .log .got) (drained size c b ms .queue .ring .held) e)
-        ∙ first-in-first-out c size b (map put ms ++ replicate n (get size)) f (puts-simple c size ms (replicate n (get size)) (gets-simple c size n))
-        ∙ ap (λ (u : State). u .log .sent) r ∙ y .0 ∙ x .0;
+          sym (none-left (drained size c b ms .log .got) (drained size c b ms .queue .ring .held) e)
+          ∙ first-in-first-out c size b (map put ms ++ replicate n (get size)) f (puts-simple c size ms (replicate n (get size)) (gets-simple c size n))
+          ∙ ap (λ (u : State). u .log .sent) r ∙ y .0 ∙ x .0;
     }

@@ -1,13 +1,17 @@
 pub mod Slots
 pub mod Headers
 pub mod Places
+pub mod Looks
 pub mod Answers
 pub mod Decisions
 pub mod Calls
+pub mod Lines
 pub mod Steps
 pub mod Histories
 pub mod Agreements
+pub mod Waiters
 pub mod HandOvers
+pub mod Example
 pub mod Implied
 pub mod Deciding
 pub mod Lemmas

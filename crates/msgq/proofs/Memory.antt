@@ -11,7 +11,7 @@ use Rattle.seq.proofs.Sub.{sub-take, sub-drop, sub-holds}
 use Rattle.ring_buf.specs.Ring.{wrap, turn}
 use Rattle.ring_buf.proofs.Rings.{turned, wrap-low, wrap-below, held-long, spare-long}
 use Rattle.msgq.specs.Messages.{slots}
-use Rattle.msgq.specs.Msgq.{Msgq, used}
+use Rattle.msgq.specs.Msgq.{used}
 use Rattle.msgq.specs.Post.{sound, held}
 use Rattle.msgq.specs.History.{Good}
 use Rattle.msgq.specs.Upstream.{Inv, InvOf, Housed, InSlot}
@@ -35,9 +35,9 @@ memory-good h b e =
       write = wrap-below (getD h 1 0 + length (take (getD h 2 0) (turn (getD h 1 0) S))) (getD h 0 0) (omega (arith, s .within .idx, s .within .used));
       slots = omega (arith, s .within .used);
       messages =
-        sub-holds P (sub-take (getD h 2 0) (turn (getD h 1 0) S))
-        (subst (All P) (sym (turned (getD h 1 0) S))
-        (all-append P (drop (getD h 1 0) S) (take (getD h 1 0) S) (sub-holds P (sub-drop (getD h 1 0) S) a) (sub-holds P (sub-take (getD h 1 0) S) a)));
+          sub-holds P (sub-take (getD h 2 0) (turn (getD h 1 0) S))
+          (subst (All P) (sym (turned (getD h 1 0) S))
+          (all-append P (drop (getD h 1 0) S) (take (getD h 1 0) S) (sub-holds P (sub-drop (getD h 1 0) S) a) (sub-holds P (sub-take (getD h 1 0) S) a)));
     }
 
 -- memory is as it should be exactly if upstream's invariant holds of it, and it is housed. The write index, which upstream keeps, is worked out
@@ -52,9 +52,10 @@ inv-formed h b w k i =
 
 pub formed-inv : (h b : List ℕ) → sound h b ≡ true → Housed h b × InvOf (held h b)
 formed-inv h b e =
-    let s = from-sound h b e in
-    (record { words = s .words; small = s .room .small; memory = s .room .long },
-    good-inv (getD h 0 0) (getD h 3 0) (held h b) (s .room .some) (memory-good h b e))
+    let s = from-sound h b e in (
+      record { words = s .words; small = s .room .small; memory = s .room .long },
+      good-inv (getD h 0 0) (getD h 3 0) (held h b) (s .room .some) (memory-good h b e),
+    )
 
 -- the message i stands in the slot i behind the first
 pub slot-of : (h b : List ℕ) → sound h b ≡ true → (i : ℕ) → i < used (held h b) → InSlot (wrap (getD h 1 0 + i) (getD h 0 0)) (getD (held h b .ring .held) i []) (held h b) b
@@ -62,10 +63,11 @@ slot-of h b e i f =
     let s = from-sound h b e in
     let S = slots (getD h 3 0) (getD h 0 0) b in
     let m = length-slots (getD h 3 0) (getD h 0 0) b in
-    let n = held-long (getD h 0 0) (getD h 1 0) (getD h 2 0) S m (s .within .idx) (s .within .used) in
-    (wrap-below (getD h 1 0 + i) (getD h 0 0) (omega (arith, s .within .idx, s .within .used)),
-    sym (getD-take (getD h 2 0) (turn (getD h 1 0) S) i [] (omega arith)
-    ∙ turn-at (getD h 1 0) i (wrap (getD h 1 0 + i) (getD h 0 0)) S [] (omega (arith, s .within .idx)) (omega (arith, s .within .used)) (ap (wrap (getD h 1 0 + i)) (sym m))))
+    let n = held-long (getD h 0 0) (getD h 1 0) (getD h 2 0) S m (s .within .idx) (s .within .used) in (
+      wrap-below (getD h 1 0 + i) (getD h 0 0) (omega (arith, s .within .idx, s .within .used)),
+      sym (getD-take (getD h 2 0) (turn (getD h 1 0) S) i [] (omega arith)
+          ∙ turn-at (getD h 1 0) i (wrap (getD h 1 0 + i) (getD h 0 0)) S [] (omega (arith, s .within .idx)) (omega (arith, s .within .used)) (ap (wrap (getD h 1 0 + i)) (sym m))),
+    )
 
 pub first-slot : (h b : List ℕ) → sound h b ≡ true → 0 < used (held h b) → InSlot (getD h 1 0) (getD (held h b .ring .held) 0 []) (held h b) b
 first-slot h b e f =

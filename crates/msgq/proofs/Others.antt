@@ -1,7 +1,7 @@
 -- Our contracts imply those of Gale's msgq.rs: the functions that only look, and init. Assumes nothing.
 use mathlib.Core.Path.{_≡_, ap, _∙_}
 use mathlib.Core.Bool.{Bool, true, false, cond}
-use mathlib.Core.Logic.{_⊎_, inl, inr}
+use mathlib.Core.Logic.{inl, inr}
 use mathlib.Core.List.{List}
 use Prim.Native.Nat.{ℕ, _*_, _≤_, _<_}
 use native.Mathlib.Omega.{arith}
@@ -85,13 +85,13 @@ module _ (size c : ℕ) (h b : List ℕ) (r : ℤ) (h' : List ℕ) (k : 4 ≤ le
         max-is = λ e. ap max (s .made e .object);
         read = λ e. ap readIdx (s .made e .object);
         write = λ e. let f = from-sound h' b (s .made e .formed) .within .idx in
-          ap writeIdx (s .made e .object) ∙ wrap-low 0 c (omega (arith, ap max (s .made e .object)));
+            ap writeIdx (s .made e .object) ∙ wrap-low 0 c (omega (arith, ap max (s .made e .object)));
         empty = λ e. ap used (s .made e .object);
         code = refused;
         reason = λ e. by-lt 0 c
-          (λ f. by-lt 0 size
-          (λ g. by-lt 4294967295 (c * size) (λ l. inr (inr (inl l)))
-          (λ l. by-lt (length b) (c * size) (λ m. inr (inr (inr m))) (λ m. absurd (e (accepted f g l m)))))
-          (λ g. inl (omega arith)))
-          (λ f. inr (inl (omega arith)));
+            (λ f. by-lt 0 size
+            (λ g. by-lt 4294967295 (c * size) (λ l. inr (inr (inl l)))
+            (λ l. by-lt (length b) (c * size) (λ m. inr (inr (inr m))) (λ m. absurd (e (accepted f g l m)))))
+            (λ g. inl (omega arith)))
+            (λ f. inr (inl (omega arith)));
       }

@@ -11,7 +11,6 @@ use Rattle.store.specs.Store.{Becomes, Started}
 use Rattle.store.proofs.Laws.{start-short, start-bad, start-made}
 use Rattle.ring_buf.specs.Ring.{Ring, ring}
 use Rattle.msgq.specs.Messages.{slots}
-use Rattle.msgq.specs.Msgq.{Msgq}
 use Rattle.msgq.specs.Post.{room, messages, new, may}
 use Rattle.msgq.proofs.Headers.{Room, roomy, is-sound}
 

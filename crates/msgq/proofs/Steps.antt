@@ -1,13 +1,12 @@
 -- What one call does to a queue and to the log. Assumes nothing.
-use mathlib.Core.Path.{_≡_, refl, sym, ap, subst, _∙_}
+use mathlib.Core.Path.{_≡_, refl, sym, subst, _∙_}
 use mathlib.Core.Bool.{Bool, true, false, cond}
-use mathlib.Core.List.{List, [], _∷_, _++_, append-assoc, append-nil}
+use mathlib.Core.List.{List, [], _∷_, _++_}
 use Prim.Native.Nat.{ℕ, zero, suc, _+_, _-_, _≤_, _<_}
 use native.Mathlib.Omega.{arith}
 use borrow.Author.Tests.{ltb-true, eqb-true}
 use lib.Dec.{eqb, ltb}
-use lib.ListN.{length, take, drop, getD, length-append, length-take, length-drop}
-use lib.Seq.{take-append-seam, drop-append-seam, drop-length, append-snoc}
+use lib.ListN.{length, getD, length-append, length-take, length-drop}
 use Rattle.seq.specs.List.{All}
 use Rattle.seq.proofs.Sub.{sub-drop, sub-holds}
 use Rattle.thread.specs.Code.{ok, enomsg}
@@ -16,6 +15,7 @@ use Rattle.ring_buf.specs.Ring.{Ring, wrap, append, lead, leave}
 use Rattle.ring_buf.proofs.Rings.{wrap-below}
 use Rattle.msgq.specs.Msgq.{Msgq, Numbers, now, having, max, used, readIdx, writeIdx, given}
 use Rattle.msgq.specs.History.{Call, put, putFront, get, purge, does, out, left, noted, note, State, next, Good, Promise}
+use Rattle.msgq.proofs.Lines.{line-put, line-front, line-get, line-purge}
 
 pub all-append : {A : Type 0} (P : A → Type 0) (l k : List A) → All P l → All P k → All P (l ++ k)
 all-append P [] k a b = b
@@ -60,21 +60,6 @@ module _ (c z : ℕ) (q : Msgq) (g : Good c z q) where
       (subst (λ (x : ℕ). wrap (readIdx q + k) x < c) (sym (g .max)) (wrap-below (readIdx q + k) c (omega (arith, g .read, g .slots))))
       (simp (length-append, length-take, length-drop) (omega (arith, g .slots)))
       (sub-holds (λ (x : List ℕ). length x ≡ z) (sub-drop k H) (g .messages))
-
--- what is written down, by the lists: what came out, what is held, the line
-line-put : (g l n : List (List ℕ)) (m : List ℕ) → g ++ l ≡ n → g ++ (l ++ m ∷ []) ≡ n ++ m ∷ []
-line-put g l n m e = sym (append-assoc g l (m ∷ [])) ∙ ap (λ (x : List (List ℕ)). x ++ m ∷ []) e
-
-line-front : (g l n : List (List ℕ)) (m : List ℕ) → g ++ l ≡ n → g ++ m ∷ l ≡ take (length g) n ++ m ∷ drop (length g) n
-line-front g l n m e =
-    (λ i. sym (take-append-seam g l) i ++ m ∷ sym (drop-append-seam g l) i) ∙ ap (λ (x : List (List ℕ)). take (length g) x ++ m ∷ drop (length g) x) e
-
-line-get : (g l n : List (List ℕ)) → 0 < length l → g ++ l ≡ n → (g ++ getD l 0 [] ∷ []) ++ drop 1 l ≡ n
-line-get g [] n f e = absurd (omega arith)
-line-get g (x ∷ l) n f e = append-snoc g x l ∙ e
-
-line-purge : (g l n : List (List ℕ)) → g ++ l ≡ n → g ++ drop (length l) l ≡ take (length g) n
-line-purge g l n e = ap (λ (x : List (List ℕ)). g ++ x) (drop-length l) ∙ append-nil g ∙ sym (take-append-seam g l) ∙ ap (take (length g)) e
 
 module _ (c z : ℕ) (s : State) (p : Promise c z s) where
   abbrev Q : Msgq

@@ -1,7 +1,7 @@
 -- Readers wait for a message, writers for room. What put_decide and get_decide tell the caller to do then, and that messages still come out in the
 -- order in which they were put.
 use mathlib.Core.Path.{_≡_}
-use mathlib.Core.Bool.{Bool, true, false}
+use mathlib.Core.Bool.{Bool, true}
 use mathlib.Core.List.{List, [], _∷_, _++_}
 use Prim.Native.Nat.{ℕ, zero, suc, _-_, _<_}
 use lib.Dec.{ltb}

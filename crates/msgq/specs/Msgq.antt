@@ -1,5 +1,4 @@
 -- The message queue: a ring whose elements are messages of one size.
-use mathlib.Core.Path.{_≡_}
 use mathlib.Core.Bool.{Bool, true, false, cond}
 use mathlib.Core.List.{List, [], _∷_}
 use Prim.Native.Nat.{ℕ, _+_, _-_}
@@ -8,9 +7,8 @@ use lib.IntN.{ℤ, pos}
 use lib.ListN.{length, getD}
 use Rattle.seq.specs.List.{any}
 use Rattle.thread.specs.Code.{ok, einval, enomsg}
-use Rattle.store.specs.Store.{Reply, refuse, accept, answer, carry, settled}
+use Rattle.store.specs.Store.{Reply, refuse, accept, carry}
 use Rattle.ring_buf.specs.Ring.{Ring, wrap, tail, append, lead, leave}
-use Rattle.ring_buf.specs.Bytes.{numbers}
 
 pub record Msgq : Type 0 where
   -- how many bytes a message has

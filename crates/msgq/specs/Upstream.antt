@@ -8,7 +8,6 @@ use Prim.Native.Nat.{ℕ, _+_, _-_, _*_, _≤_, _<_}
 use lib.Dec.{eqb, ltb}
 use lib.IntN.{ℤ, pos}
 use lib.ListN.{length, drop, getD, replicate}
-use Rattle.seq.specs.List.{All}
 use Rattle.thread.specs.Code.{ok, enomsg, einval}
 use Rattle.thread.specs.Upstream.{Tells}
 use Rattle.msgq.specs.Messages.{slots}

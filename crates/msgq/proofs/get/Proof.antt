@@ -2,7 +2,8 @@
 use mathlib.Core.Path.{_∙_}
 use native.Mathlib.Omega.{arith}
 use lib.ListN.{length, length-set}
-use Rattle.msgq.proofs.Answers.{did-size, handed-size, slot-fits, zero-behind, unseen, shown, get-empty, get-done}
+use Rattle.msgq.proofs.Looks.{slot-fits, zero-behind, unseen, shown}
+use Rattle.msgq.proofs.Answers.{did-size, handed-size, get-empty, get-done}
 use Rattle.msgq.proofs.Headers.{was-false, taken}
 use borrow.Author.Needs.{needs}
 use Rattle.msgq.proofs.get.Statement.{statement}

@@ -1,8 +1,10 @@
 -- One law for each answer. Assumes nothing.
-use mathlib.Core.Path.{_∙_}
+use mathlib.Core.Path.{sym, _∙_}
 use native.Mathlib.Omega.{arith}
 use Rattle.seq.proofs.Integers.{answered64}
-use Rattle.msgq.proofs.Answers.{looks-no, looks-yes}
+use Rattle.store.proofs.Laws.{looks-bad}
+use Rattle.msgq.specs.Post.{messages}
+use Rattle.msgq.proofs.Looks.{looks-yes}
 use Rattle.msgq.proofs.Headers.{was-false, passed}
 use Rattle.msgq.specs.Msgq.{msgSize}
 use borrow.Author.Needs.{needs}
@@ -13,7 +15,7 @@ formed-requires : tie.Need-formed-requires
 formed-requires c κs = search needs
 
 returns : tie.Need-returns
-returns c = let a = c .before .before .before .before .args in looks-no (a .h .now) (a .b .now) msgSize (was-false (c .before .formed .ensures) (c .if1 .taken))
+returns c = let a = c .before .before .before .before .args in sym (looks-bad messages (a .h .now) (a .b .now) msgSize (was-false (c .before .formed .ensures) (c .if1 .taken)))
 
 shared-slice-read-signed : tie.Need-shared-slice-read-signed
 shared-slice-read-signed c = let a = c .before .before .before .before .before .args in let s = passed (a .h .now) (a .b .now) (c .before .before .formed .ensures) (c .before .if1 .left) in omega arith

@@ -2,7 +2,8 @@
 use mathlib.Core.Path.{_∙_}
 use native.Mathlib.Omega.{arith}
 use lib.ListN.{length}
-use Rattle.msgq.proofs.Answers.{peek-size, handed-size, slot-fits, slot-below, peek-past, peek-done, unseen, shown}
+use Rattle.msgq.proofs.Looks.{slot-fits, slot-below, peek-past, peek-done, unseen, shown}
+use Rattle.msgq.proofs.Answers.{peek-size, handed-size}
 use Rattle.msgq.proofs.Headers.{was-false, taken}
 use borrow.Author.Needs.{needs}
 use Rattle.msgq.proofs.peek_at.Statement.{statement}

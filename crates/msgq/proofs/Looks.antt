@@ -1,0 +1,110 @@
+-- What is read of a queue in memory. Assumes nothing.
+use mathlib.Core.Path.{_≡_, sym, ap, _∙_}
+use mathlib.Core.Bool.{true}
+use mathlib.Core.List.{List, [], _++_, append-nil}
+use Prim.Native.Nat.{ℕ, _+_, _-_, _*_, _≤_, _<_}
+use native.Mathlib.Omega.{arith}
+use borrow.Author.Tests.{lt-ltb, le-ltb, eq-eqb}
+use lib.IntN.{ℤ, pos}
+use lib.ListN.{length, take, drop, getD, drop-of-length-le, List·getD-eq-default}
+use lib.Seq.{getD-take}
+use Rattle.thread.specs.Code.{ok, enomsg}
+use Rattle.store.specs.Store.{answer, reply, looks, handed, Filled}
+use Rattle.store.proofs.Laws.{any-some, any-none, looks-is}
+use Rattle.ring_buf.specs.Ring.{wrap, turn}
+use Rattle.ring_buf.proofs.Rings.{wrap-low, wrap-below, held-long, spare-long}
+use Rattle.msgq.specs.Messages.{slots}
+use Rattle.msgq.specs.Msgq.{Msgq, peek, seen, numFree, numUsed, writeAt, full, empty}
+use Rattle.msgq.specs.Post.{sound, held, messages}
+use Rattle.msgq.proofs.Slots.{length-slots, slot-room, slot-at, slot-long, turn-at}
+use Rattle.msgq.proofs.Headers.{Sound, is-sound}
+
+-- a place that has the length of what is handed out
+fill : (l o o' : List ℕ) → length l ≡ length o → o' ≡ l → Filled l o o'
+fill l o o' e f = f ∙ sym (ap (λ (x : List ℕ). l ++ x) (drop-of-length-le o {i = length l} (omega arith)) ∙ append-nil l)
+
+module _ (h b : List ℕ) (s : Sound h b) where
+  abbrev c : ℕ
+  c = getD h 0 0
+
+  abbrev t : ℕ
+  t = getD h 1 0
+
+  abbrev n : ℕ
+  n = getD h 2 0
+
+  abbrev z : ℕ
+  z = getD h 3 0
+
+  abbrev S : List (List ℕ)
+  S = slots z c b
+
+  pub good : sound h b ≡ true
+  good = is-sound h b s
+
+  pub many : length S ≡ c
+  many = length-slots z c b
+
+  pub hold : length (take n (turn t S)) ≡ n
+  hold = held-long c t n S many (s .within .idx) (s .within .used)
+
+  pub spare : length (drop n (turn t S)) ≡ c - n
+  spare = spare-long c t n S many (s .within .idx) (s .within .used)
+
+  -- a slot is within the buffer
+  pub slot-fits : (k a : ℕ) → k ≡ z → a < c → a * k + k ≤ length b
+  slot-fits k a e f = rw e (omega (arith, slot-room z c a f, s .room .long))
+
+  pub slot-below : (k a : ℕ) → k ≤ c → a ≡ wrap (t + k) c → a < c
+  slot-below k a e f = omega (arith, wrap-below (t + k) c (omega (arith, s .within .idx)))
+
+  pub zero-behind : t ≡ wrap (t + 0) c
+  zero-behind = let y : t + 0 ≡ t = omega arith in sym (ap (λ (x : ℕ). wrap x c) y ∙ wrap-low t c (s .within .idx))
+
+  -- what is read
+  pub looks-yes : (f : Msgq → ℤ) → f (held h b) ≡ looks messages f h b
+  looks-yes f = sym (looks-is messages h b f good)
+
+  pub free-is : pos (c - n) ≡ looks messages numFree h b
+  free-is = ap pos (sym spare) ∙ looks-yes numFree
+
+  pub used-is : pos n ≡ looks messages numUsed h b
+  used-is = ap pos (sym hold) ∙ looks-yes numUsed
+
+  pub write-is : (a : ℕ) → a ≡ wrap (t + n) c → pos a ≡ looks messages writeAt h b
+  write-is a e = ap pos (e ∙ ap (λ (x : ℕ). wrap (t + x) c) (sym hold)) ∙ looks-yes writeAt
+
+  pub full-yes : n ≡ c → pos 1 ≡ looks messages full h b
+  full-yes e = rw (good, any-none (drop n (turn t S)) (omega (arith, spare)))
+
+  pub full-no : (n ≡ c → ⊥) → pos 0 ≡ looks messages full h b
+  full-no e = rw (good, any-some (drop n (turn t S)) (omega (arith, spare)))
+
+  pub empty-yes : n ≡ 0 → pos 1 ≡ looks messages empty h b
+  empty-yes e = rw (good, any-none (take n (turn t S)) (omega (arith, hold)))
+
+  pub empty-no : (n ≡ 0 → ⊥) → pos 0 ≡ looks messages empty h b
+  empty-no e = rw (good, any-some (take n (turn t S)) (omega (arith, hold)))
+
+  module _ (o : List ℕ) (i : ℕ) where
+    pub peek-past : length o ≡ z → n ≤ i → enomsg ≡ answer (reply messages (peek (length o) i) h b)
+    peek-past e f = rw (good, eq-eqb (length o) z e, hold, le-ltb i n f)
+
+    pub peek-done : length o ≡ z → i < n → ok ≡ answer (reply messages (peek (length o) i) h b)
+    peek-done e f = rw (good, eq-eqb (length o) z e, hold, lt-ltb i n f)
+
+    -- the message i in the slot a
+    pub shown : (a : ℕ) (o' : List ℕ) → length o ≡ z → i < n → a ≡ wrap (t + i) c → o' ≡ take (length o) (drop (a * length o) b)
+        → Filled (handed messages (seen (length o) i) h b) o o'
+    shown a o' e f v w =
+        let g = wrap-below (t + i) c (omega (arith, s .within .idx, s .within .used)) in
+        let x : getD (take n (turn t S)) i [] ≡ take z (drop (a * z) b) =
+        getD-take n (turn t S) i [] f ∙ turn-at t i a S [] (omega (arith, many, s .within .idx)) (omega (arith, many, s .within .used)) (v ∙ ap (wrap (t + i)) (sym many))
+        ∙ slot-at z c a b (omega arith) in
+        rw (good, eq-eqb (length o) z e)
+        (fill (getD (take n (turn t S)) i []) o o' (ap length x ∙ slot-long z c a b (omega arith) (s .room .long) ∙ sym e)
+        (w ∙ ap (λ (k : ℕ). take k (drop (a * k) b)) e ∙ sym x))
+
+    -- past the end there is none
+    pub unseen : length o ≡ z → n ≤ i → Filled (handed messages (seen (length o) i) h b) o o
+    unseen e f = rw (good, eq-eqb (length o) z e) (rw (List·getD-eq-default (take n (turn t S)) [] {n = i} (omega (arith, hold))))
