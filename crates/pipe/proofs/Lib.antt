@@ -1,0 +1,3 @@
+pub mod Verdicts
+pub mod Headers
+pub mod Answers

@@ -1,0 +1,136 @@
+-- What becomes of a write and a read, by the flags and the numbers. Assumes nothing.
+use mathlib.Core.Path.{_≡_, refl, sym, ap, _∙_}
+use mathlib.Core.Bool.{Bool, true, false, cond}
+use Prim.Native.Nat.{ℕ, _+_, _-_, _≤_, _<_, min}
+use native.Mathlib.Omega.{arith}
+use borrow.Author.Tests.{lt-ltb, le-ltb, lt-leb, le-leb, leb-true, ltb-true, eq-eqb, ne-eqb, eqb-true}
+use lib.Dec.{eqb, ltb, leb}
+use lib.IntN.{ℤ}
+use Rattle.thread.specs.Code.{einval, eagain, epipe, enomsg, ecanceled}
+use Rattle.store.specs.Store.{Reply, refuse, accept, answer}
+use Rattle.store.proofs.Laws.{both-true}
+use Rattle.ring_buf.proofs.Rings.{by-lt}
+use Rattle.pipe.specs.Pipe.{Verdict, never, later, move, writes, reads}
+use Rattle.pipe.specs.Post.{isOpen, isResetting, Moves, goes, wakes, pends, decided, proper, writeDecision, readDecision, Decided}
+
+pub resetting-on : (f : ℕ) → 2 ≤ f → f ≤ 3 → isResetting f ≡ true
+resetting-on f h k = by-lt f 3 (λ l. rw (eq-eqb f 2 (omega arith))) (λ l. rw (eq-eqb f 3 (omega arith), ne-eqb f 2 (λ e. omega arith)))
+
+pub resetting-off : (f : ℕ) → f < 2 → isResetting f ≡ false
+resetting-off f h = rw (ne-eqb f 2 (λ e. omega arith), ne-eqb f 3 (λ e. omega arith))
+
+module _ (used size f n : ℕ) where
+  pub write-resetting : 2 ≤ f → f ≤ 3 → writes used size (isOpen f) (isResetting f) n ≡ never ecanceled
+  write-resetting h k = rw (resetting-on f h k)
+
+  pub write-closed : f ≡ 0 → writes used size (isOpen f) (isResetting f) n ≡ never epipe
+  write-closed e = rw e
+
+  pub write-none : f ≡ 1 → n ≡ 0 → writes used size (isOpen f) (isResetting f) n ≡ never enomsg
+  write-none e z = rw (e, z)
+
+  pub write-full : f ≡ 1 → 0 < n → size ≤ used → writes used size (isOpen f) (isResetting f) n ≡ later
+  write-full e h k = rw (e, ne-eqb n 0 (λ z. omega arith), le-ltb used size k)
+
+  pub write-moves : f ≡ 1 → 0 < n → used < size → writes used size (isOpen f) (isResetting f) n ≡ move (min n (size - used))
+  write-moves e h k = rw (e, ne-eqb n 0 (λ z. omega arith), lt-ltb used size k)
+
+  pub read-resetting : 2 ≤ f → f ≤ 3 → reads used (isOpen f) (isResetting f) n ≡ never ecanceled
+  read-resetting h k = rw (resetting-on f h k)
+
+  pub read-none : f < 2 → n ≡ 0 → reads used (isOpen f) (isResetting f) n ≡ never enomsg
+  read-none h z = rw (resetting-off f h, z)
+
+  pub read-closed : f ≡ 0 → 0 < n → used ≡ 0 → reads used (isOpen f) (isResetting f) n ≡ never epipe
+  read-closed e h z = rw (e, ne-eqb n 0 (λ y. omega arith), z)
+
+  pub read-empty : f ≡ 1 → 0 < n → used ≡ 0 → reads used (isOpen f) (isResetting f) n ≡ later
+  read-empty e h z = rw (e, ne-eqb n 0 (λ y. omega arith), z)
+
+  pub read-moves : f < 2 → 0 < n → 0 < used → reads used (isOpen f) (isResetting f) n ≡ move (min n used)
+  read-moves g h k = rw (resetting-off f g, ne-eqb n 0 (λ z. omega arith), lt-ltb 0 used k)
+
+-- ---- on plain numbers
+
+pub open-on : (f : ℕ) → f < 2 → isOpen (f + 2) ≡ isOpen f
+open-on f h = by-lt f 1 (λ l. let e : f ≡ 0 = omega arith in rw e) (λ l. let e : f ≡ 1 = omega arith in rw e)
+
+pub open-off : (f : ℕ) → 2 ≤ f → f ≤ 3 → isOpen (f - 2) ≡ isOpen f
+open-off f h k = by-lt f 3 (λ l. let e : f ≡ 2 = omega arith in rw e) (λ l. let e : f ≡ 3 = omega arith in rw e)
+
+module _ {d : Reply Moves} {a u : ℕ} where
+  decided-no : {c : ℤ} → d ≡ refuse c → Decided d a u c a u
+  decided-no e = rw e (record { code = refl; actual = refl; used = refl })
+
+  decided-yes : {m : Moves} {r : ℤ} → d ≡ accept m r → Decided d a u r (m .actual) (m .used)
+  decided-yes e = rw e (record { code = refl; actual = refl; used = refl })
+
+pub record Proper (used size f : ℕ) (w : Bool) (at : ℕ) : Type 0 where
+  pub some-size : 0 < size
+  pub under : used ≤ size
+  pub flags : f ≤ 3
+  pub waits : w ≡ true → used ≡ at
+
+module _ (used size f : ℕ) (w : Bool) (at : ℕ) where
+  pub no-size : size ≡ 0 → proper used size f w at ≡ false
+  no-size e = rw e
+
+  pub over-size : 0 < size → size < used → proper used size f w at ≡ false
+  over-size g h = rw (lt-ltb 0 size g, lt-leb used size h)
+
+  pub over-flags : 0 < size → used ≤ size → 3 < f → proper used size f w at ≡ false
+  over-flags g h k = rw (lt-ltb 0 size g, le-leb used size h, lt-leb f 3 k)
+
+  pub who-waits : 0 < size → used ≤ size → f ≤ 3 → proper used size f w at ≡ cond w (eqb used at) true
+  who-waits g h k = rw (lt-ltb 0 size g, le-leb used size h, le-leb f 3 k)
+
+  pub from-proper : proper used size f w at ≡ true → Proper used size f w at
+  from-proper e =
+      let x = both-true (ltb 0 size) _ e in
+      let y = both-true (leb used size) _ (x .1) in
+      let z = both-true (leb f 3) _ (y .1) in
+      record {
+        some-size = ltb-true 0 size (x .0);
+        under = leb-true used size (y .0);
+        flags = leb-true f 3 (z .0);
+        waits = λ g. eqb-true used at (sym (rw g refl) ∙ z .1);
+      }
+
+module _ (used size f n : ℕ) (w : Bool) (a u : ℕ) where
+  pub write-improper : proper used size f w 0 ≡ false → Decided (writeDecision used size f n w) a u einval a u
+  write-improper e = decided-no (rw e)
+
+  pub read-improper : proper used size f w size ≡ false → Decided (readDecision used size f n w) a u einval a u
+  read-improper e = decided-no (rw e)
+
+  module _ (p : proper used size f w 0 ≡ true) where
+    write-is : {v : Verdict} → writes used size (isOpen f) (isResetting f) n ≡ v → writeDecision used size f n w ≡ decided used (cond w wakes goes) (λ k. cond w 0 (used + k)) v
+    write-is e = rw p (ap (decided used (cond w wakes goes) (λ k. cond w 0 (used + k))) e)
+
+    pub write-refused : {c : ℤ} → writes used size (isOpen f) (isResetting f) n ≡ never c → Decided (writeDecision used size f n w) a u c a u
+    write-refused e = decided-no (write-is e)
+
+    pub write-pends : writes used size (isOpen f) (isResetting f) n ≡ later → Decided (writeDecision used size f n w) a u pends 0 used
+    write-pends e = decided-yes (write-is e)
+
+    pub write-wakes : {k : ℕ} → w ≡ true → writes used size (isOpen f) (isResetting f) n ≡ move k → Decided (writeDecision used size f n w) a u wakes k 0
+    write-wakes {k} g e = decided-yes (write-is e ∙ rw g)
+
+    pub write-goes : {k : ℕ} → w ≡ false → writes used size (isOpen f) (isResetting f) n ≡ move k → Decided (writeDecision used size f n w) a u goes k (used + k)
+    write-goes {k} g e = decided-yes (write-is e ∙ rw g)
+
+  module _ (p : proper used size f w size ≡ true) where
+    read-is : {v : Verdict} → reads used (isOpen f) (isResetting f) n ≡ v → readDecision used size f n w ≡ decided used (cond w wakes goes) (λ k. used - k) v
+    read-is e = rw p (ap (decided used (cond w wakes goes) (λ k. used - k)) e)
+
+    pub read-refused : {c : ℤ} → reads used (isOpen f) (isResetting f) n ≡ never c → Decided (readDecision used size f n w) a u c a u
+    read-refused e = decided-no (read-is e)
+
+    pub read-pends : reads used (isOpen f) (isResetting f) n ≡ later → Decided (readDecision used size f n w) a u pends 0 used
+    read-pends e = decided-yes (read-is e)
+
+    pub read-wakes : {k : ℕ} → w ≡ true → reads used (isOpen f) (isResetting f) n ≡ move k → Decided (readDecision used size f n w) a u wakes k (used - k)
+    read-wakes {k} g e = decided-yes (read-is e ∙ rw g)
+
+    pub read-goes : {k : ℕ} → w ≡ false → reads used (isOpen f) (isResetting f) n ≡ move k → Decided (readDecision used size f n w) a u goes k (used - k)
+    read-goes {k} g e = decided-yes (read-is e ∙ rw g)

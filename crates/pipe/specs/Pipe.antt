@@ -1,0 +1,81 @@
+-- The pipe: bytes in a ring, first in first out, and whether it is open and whether it is being reset.
+use mathlib.Core.Bool.{Bool, true, false, cond}
+use mathlib.Core.List.{List}
+use Prim.Native.Nat.{ℕ, _-_, min}
+use lib.Dec.{ltb, eqb}
+use lib.IntN.{ℤ, pos}
+use lib.ListN.{length, take}
+use Rattle.thread.specs.Code.{ok, eagain, epipe, enomsg, ecanceled}
+use Rattle.store.specs.Store.{Reply, refuse, accept}
+use Rattle.ring_buf.specs.Ring.{Ring, append, leave, clear}
+
+pub record Pipe : Type 0 where
+  pub opened : Bool
+  pub resetting : Bool
+  pub ring : Ring ℕ
+
+-- what becomes of a write or a read: refused with a code; nothing can move now; so many bytes move
+pub data Verdict : Type 0 where
+  never : ℤ → Verdict
+  later : Verdict
+  move : ℕ → Verdict
+
+-- n bytes into a pipe that holds used of size: as many as are free. A full pipe: not now
+abbrev pub writes : ℕ → ℕ → Bool → Bool → ℕ → Verdict
+writes used size opened resetting n =
+    cond resetting
+    (never ecanceled)
+    (cond opened (cond (eqb n 0) (never enomsg) (cond (ltb used size) (move (min n (size - used))) later)) (never epipe))
+
+-- n bytes out of it: as many as there are. An empty one: not now, and never if it is closed
+abbrev pub reads : ℕ → Bool → Bool → ℕ → Verdict
+reads used opened resetting n =
+    cond resetting
+    (never ecanceled)
+    (cond (eqb n 0) (never enomsg) (cond (ltb 0 used) (move (min n used)) (cond opened later (never epipe))))
+
+-- how many bytes move
+abbrev pub moved : Verdict → ℕ
+moved (never c) = 0
+moved later = 0
+moved (move n) = n
+
+-- done to a pipe: the answer is the number of bytes, and -11 if it has to be tried again
+abbrev pub done : (ℕ → Pipe) → Verdict → Reply Pipe
+done f (never c) = refuse c
+done f later = refuse eagain
+done f (move n) = accept (f n) (pos n)
+
+-- the pipe with another ring
+abbrev pub holding : Ring ℕ → Pipe → Pipe
+holding r p = record { opened = p .opened; resetting = p .resetting; ring = r }
+
+abbrev pub toWrite : ℕ → Pipe → Verdict
+toWrite n p = writes (length (p .ring .held)) (p .ring .capacity) (p .opened) (p .resetting) n
+
+abbrev pub toRead : ℕ → Pipe → Verdict
+toRead n p = reads (length (p .ring .held)) (p .opened) (p .resetting) n
+
+-- the first of l go behind what is held
+abbrev pub write : List ℕ → Pipe → Reply Pipe
+write l p = done (λ k. holding (append (take k l) (p .ring)) p) (toWrite (length l) p)
+
+-- the first that are held leave
+abbrev pub read : ℕ → Pipe → Reply Pipe
+read n p = done (λ k. holding (leave k (p .ring)) p) (toRead n p)
+
+-- the bytes that a read hands out
+abbrev pub taken : ℕ → Pipe → List ℕ
+taken n p = take (moved (toRead n p)) (p .ring .held)
+
+-- nothing is held; neither a write nor a read until the reset is over
+abbrev pub reset : Pipe → Reply Pipe
+reset p = accept (record { opened = p .opened; resetting = true; ring = clear (p .ring) }) ok
+
+-- the bytes stay; a reset is over, too
+abbrev pub close : Pipe → Reply Pipe
+close p = accept (record { opened = false; resetting = false; ring = p .ring }) ok
+
+-- the reset is over
+abbrev pub clearReset : Pipe → Reply Pipe
+clearReset p = accept (record { opened = p .opened; resetting = false; ring = p .ring }) ok

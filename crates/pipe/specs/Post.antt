@@ -1,0 +1,101 @@
+-- The pipe in memory: h = size, the place of the first byte, how many bytes are held, flags; b = the buffer, whose first bytes are the ring. What
+-- each function does.
+use mathlib.Core.Path.{_≡_}
+use mathlib.Core.Bool.{Bool, true, false, cond}
+use mathlib.Core.List.{List}
+use Prim.Native.Nat.{ℕ, _+_, _-_}
+use lib.Dec.{eqb, ltb, leb}
+use lib.IntN.{ℤ, pos}
+use lib.ListN.{length, getD}
+use Rattle.thread.specs.Code.{ok, einval}
+use Rattle.store.specs.Store.{Reply, refuse, accept, answer, settled, Place}
+use Rattle.ring_buf.specs.Bytes.{sound, held, new as newRing, sizeOf, spaceOf, capacityOf, empty, full}
+use Rattle.pipe.specs.Pipe.{Pipe, Verdict, never, later, move, writes, reads}
+
+-- 0: closed; 1: open; 2: closed and resetting; 3: open and resetting
+abbrev pub isOpen : ℕ → Bool
+isOpen f = cond (eqb f 1) true (eqb f 3)
+
+abbrev pub isResetting : ℕ → Bool
+isResetting f = cond (eqb f 2) true (eqb f 3)
+
+-- the first three words are a ring's header
+abbrev pub formed : List ℕ → List ℕ → Bool
+formed h b = cond (leb 4 (length h)) (cond (leb (getD h 3 0) 3) (sound h b) false) false
+
+abbrev pub object : List ℕ → List ℕ → Pipe
+object h b = record { opened = isOpen (getD h 3 0); resetting = isResetting (getD h 3 0); ring = held h b }
+
+abbrev pub layout : Place Pipe
+layout = record { words = 4; size = λ h. getD h 0 0; object = object; formed = formed }
+
+-- a new pipe of n bytes
+abbrev pub new : ℕ → List ℕ → Pipe
+new n b = record { opened = true; resetting = false; ring = newRing n b }
+
+-- what the other functions answer
+abbrev pub size : Pipe → ℤ
+size p = capacityOf (p .ring)
+
+abbrev pub data-held : Pipe → ℤ
+data-held p = sizeOf (p .ring)
+
+abbrev pub space : Pipe → ℤ
+space p = spaceOf (p .ring)
+
+abbrev pub isEmpty : Pipe → ℤ
+isEmpty p = empty (p .ring)
+
+abbrev pub isFull : Pipe → ℤ
+isFull p = full (p .ring)
+
+-- 1 or 0
+abbrev pub flag : Bool → ℤ
+flag b = cond b (pos 1) (pos 0)
+
+-- ---- on plain numbers
+
+-- how many bytes move, and how many are held then
+pub record Moves : Type 0 where
+  pub actual : ℕ
+  pub used : ℕ
+
+-- what a decide function answers: the bytes move; they move, and somebody that waits is to be woken; the caller is to wait
+abbrev pub goes : ℤ
+goes = pos 0
+
+abbrev pub wakes : ℤ
+wakes = pos 1
+
+abbrev pub pends : ℤ
+pends = pos 2
+
+-- by the pipe's own verdict; r is the answer if bytes move, and f how many are held then
+abbrev pub decided : ℕ → ℤ → (ℕ → ℕ) → Verdict → Reply Moves
+decided used r f (never c) = refuse c
+decided used r f later = accept (record { actual = 0; used = used }) pends
+decided used r f (move n) = accept (record { actual = n; used = f n }) r
+
+-- numbers that a pipe can have, where somebody waits or nobody; one waits only where so many are held
+abbrev pub proper : ℕ → ℕ → ℕ → Bool → ℕ → Bool
+proper used size flags waits at = cond (ltb 0 size) (cond (leb used size) (cond (leb flags 3) (cond waits (eqb used at) true) false) false) false
+
+-- a reader waits only if nothing is held: what is written goes straight to it, and nothing is held then
+abbrev pub writeDecision : ℕ → ℕ → ℕ → ℕ → Bool → Reply Moves
+writeDecision used size flags n reader =
+    cond (proper used size flags reader 0)
+    (decided used (cond reader wakes goes) (λ k. cond reader 0 (used + k)) (writes used size (isOpen flags) (isResetting flags) n))
+    (refuse einval)
+
+-- a writer waits only if nothing is free: it writes after the read
+abbrev pub readDecision : ℕ → ℕ → ℕ → ℕ → Bool → Reply Moves
+readDecision used size flags n writer =
+    cond (proper used size flags writer size)
+    (decided used (cond writer wakes goes) (λ k. used - k) (reads used (isOpen flags) (isResetting flags) n))
+    (refuse einval)
+
+-- a decision was made, in the words that were a and u: a refusal leaves them
+pub record Decided (d : Reply Moves) (a u : ℕ) (r : ℤ) (a' u' : ℕ) : Type 0 where
+  pub code : r ≡ answer d
+  pub actual : a' ≡ settled (λ m. m .actual) d a
+  pub used : u' ≡ settled (λ m. m .used) d u

@@ -1,0 +1,362 @@
+// The pipe with its bytes, in place: Gale's pipe.rs. h: size, the place of the first byte, how many bytes are held, flags; b: the buffer, whose
+// first bytes are the ring.
+use thread::EAGAIN;
+use thread::ECANCELED;
+use thread::EINVAL;
+use thread::ENOMSG;
+use thread::EPIPE;
+use thread::OK;
+ghost use mathlib.Core.Path.{_≡_};
+ghost use mathlib.Core.Bool.{true, false};
+ghost use Prim.Native.Nat.{ℕ, _<_, _≤_, min};
+ghost use mathlib.Core.List.{List, []};
+ghost use lib.ListN.{length, getD};
+ghost use lib.IntN.{ℤ};
+ghost use Rattle.store.specs.Store.{Did, looks, handed, Filled, Started};
+ghost use Rattle.ring_buf.specs.Bytes.{may};
+ghost use Rattle.pipe.specs.Pipe.{Pipe, write as doWrite, read as doRead, taken, reset as doReset, close as doClose, clearReset};
+ghost use Rattle.pipe.specs.Post.{isOpen, isResetting, formed as wellFormed, layout, new, size as sizeOf, data-held as dataOf, space as spaceOf, isEmpty as emptyOf, isFull as fullOf, flag, proper as properNumbers, writeDecision, readDecision, Decided};
+
+// Open, and resetting too: Gale's FLAG_OPEN and FLAG_RESET are bits.
+pub const FLAG_OPEN: u32 = 1;
+
+pub const FLAG_RESET: u32 = 2;
+
+const BOTH: u32 = 3;
+
+// What a caller is to do: Gale's WriteDecision and ReadDecision.
+pub const GOES: i32 = 0;
+
+pub const WAKES: i32 = 1;
+
+pub const PENDS: i32 = 2;
+
+fn least(a: u32, b: u32) -> u32
+    ensures { λ r. ⌜ r ≡ min a b ⌝ }
+{
+    if a < b { a } else { b }
+}
+
+// Whether flags say open.
+fn opened(flags: u32) -> bool
+    ensures { λ r. ⌜ r ≡ isOpen flags ⌝ }
+{
+    if flags == FLAG_OPEN {
+        return true;
+    }
+    flags == BOTH
+}
+
+// Whether the header and the buffer are as they should be.
+fn formed(h: &[u32], b: &[u8]) -> bool
+    ensures { λ r. ⌜ r ≡ wellFormed (now (h .entry)) (now (b .entry)) ⌝ }
+{
+    if h.len() < 4 {
+        return false;
+    }
+    if BOTH < h[3] {
+        return false;
+    }
+    ring_buf::formed(h, b)
+}
+
+// OK: open and empty; EINVAL: a size of 0, or above the buffer's length.
+pub fn init(h: &mut [u32], b: &[u8], size: u32) -> i32
+    ensures { λ r. ⌜ Started layout (may size (now (b .entry))) (new size (now (b .entry))) (now (h .entry)) (now (b .entry)) r (now (h .exit)) (now (b .entry)) ⌝ }
+{
+    if h.len() < 4 {
+        return EINVAL;
+    }
+    if size == 0 {
+        return EINVAL;
+    }
+    if b.len() < seq::wide(size) {
+        return EINVAL;
+    }
+    h[0] = size;
+    h[1] = 0;
+    h[2] = 0;
+    h[3] = FLAG_OPEN;
+    OK
+}
+
+// A write to a pipe that takes no byte.
+fn write_refusal(h: &[u32], b: &[u8], src: &[u8]) -> i64
+    requires { ⌜ (getD (now h) 3 0 ≡ 1 → 0 < length (now src) → getD (now h) 0 0 ≤ getD (now h) 2 0) ⌝ }
+    ensures { λ r. ⌜ Did layout (doWrite (now (src .entry))) (now (h .entry)) (now (b .entry)) r (now (h .entry)) (now (b .entry)) ⌝ }
+{
+    if !formed(h, b) {
+        return EINVAL as i64;
+    }
+    let flags = h[3];
+    if FLAG_RESET <= flags {
+        return ECANCELED as i64;
+    }
+    if flags == 0 {
+        return EPIPE as i64;
+    }
+    if src.len() == 0 {
+        return ENOMSG as i64;
+    }
+    EAGAIN as i64
+}
+
+// How many bytes went in, the first of src. ECANCELED: resetting; EPIPE: closed; ENOMSG: src is empty; EAGAIN: full.
+pub fn write(h: &mut [u32], b: &mut [u8], src: &[u8]) -> i64
+    ensures { λ r. ⌜ Did layout (doWrite (now (src .entry))) (now (h .entry)) (now (b .entry)) r (now (h .exit)) (now (b .exit)) ⌝ }
+{
+    if h.len() < 4 {
+        return EINVAL as i64;
+    }
+    if h[3] == FLAG_OPEN {
+        if h[2] < h[0] {
+            if 0 < src.len() {
+                return ring_buf::put_n(h, b, src);
+            }
+        }
+    }
+    write_refusal(h, b, src)
+}
+
+// A read from a pipe that gives no byte.
+fn read_refusal(h: &[u32], b: &[u8], n: usize) -> i64
+    requires { ⌜ (getD (now h) 3 0 < 2 → 0 < n → getD (now h) 2 0 ≡ 0) ⌝ }
+    ensures { λ r. ⌜ Did layout (doRead n) (now (h .entry)) (now (b .entry)) r (now (h .entry)) (now (b .entry)) ⌝ }
+    ensures { λ r. ⌜ handed layout (taken n) (now (h .entry)) (now (b .entry)) ≡ [] ⌝ }
+{
+    if !formed(h, b) {
+        return EINVAL as i64;
+    }
+    let flags = h[3];
+    if FLAG_RESET <= flags {
+        return ECANCELED as i64;
+    }
+    if n == 0 {
+        return ENOMSG as i64;
+    }
+    if flags == 0 {
+        return EPIPE as i64;
+    }
+    EAGAIN as i64
+}
+
+// How many bytes came out, to the first of out. ECANCELED: resetting; ENOMSG: out is empty; if nothing is held EPIPE: closed, EAGAIN: open.
+pub fn read(h: &mut [u32], b: &[u8], out: &mut [u8]) -> i64
+    ensures { λ r. ⌜ Did layout (doRead (length (now (out .entry)))) (now (h .entry)) (now (b .entry)) r (now (h .exit)) (now (b .entry)) ⌝ }
+    ensures { λ r. ⌜ Filled (handed layout (taken (length (now (out .entry)))) (now (h .entry)) (now (b .entry))) (now (out .entry)) (now (out .exit)) ⌝ }
+{
+    if h.len() < 4 {
+        return EINVAL as i64;
+    }
+    if h[3] < FLAG_RESET {
+        if 0 < h[2] {
+            if 0 < out.len() {
+                return ring_buf::get_n(h, b, out);
+            }
+        }
+    }
+    read_refusal(h, b, out.len())
+}
+
+// OK: nothing is held, and it is resetting.
+pub fn reset(h: &mut [u32], b: &[u8]) -> i32
+    ensures { λ r. ⌜ Did layout doReset (now (h .entry)) (now (b .entry)) r (now (h .exit)) (now (b .entry)) ⌝ }
+{
+    if !formed(h, b) {
+        return EINVAL;
+    }
+    let flags = h[3];
+    h[1] = 0;
+    h[2] = 0;
+    if flags < FLAG_RESET {
+        h[3] = flags + FLAG_RESET;
+    }
+    OK
+}
+
+// OK: neither open nor resetting; what is held stays.
+pub fn close(h: &mut [u32], b: &[u8]) -> i32
+    ensures { λ r. ⌜ Did layout doClose (now (h .entry)) (now (b .entry)) r (now (h .exit)) (now (b .entry)) ⌝ }
+{
+    if !formed(h, b) {
+        return EINVAL;
+    }
+    h[3] = 0;
+    OK
+}
+
+// OK: not resetting.
+pub fn clear_reset(h: &mut [u32], b: &[u8]) -> i32
+    ensures { λ r. ⌜ Did layout clearReset (now (h .entry)) (now (b .entry)) r (now (h .exit)) (now (b .entry)) ⌝ }
+{
+    if !formed(h, b) {
+        return EINVAL;
+    }
+    let flags = h[3];
+    if FLAG_RESET <= flags {
+        h[3] = flags - FLAG_RESET;
+    }
+    OK
+}
+
+pub fn space_get(h: &[u32], b: &[u8]) -> i64
+    ensures { λ r. ⌜ r ≡ looks layout spaceOf (now (h .entry)) (now (b .entry)) ⌝ }
+{
+    if !formed(h, b) {
+        return EINVAL as i64;
+    }
+    seq::signed(h[0] - h[2])
+}
+
+// How many bytes are held.
+pub fn data_get(h: &[u32], b: &[u8]) -> i64
+    ensures { λ r. ⌜ r ≡ looks layout dataOf (now (h .entry)) (now (b .entry)) ⌝ }
+{
+    if !formed(h, b) {
+        return EINVAL as i64;
+    }
+    seq::signed(h[2])
+}
+
+pub fn size(h: &[u32], b: &[u8]) -> i64
+    ensures { λ r. ⌜ r ≡ looks layout sizeOf (now (h .entry)) (now (b .entry)) ⌝ }
+{
+    if !formed(h, b) {
+        return EINVAL as i64;
+    }
+    seq::signed(h[0])
+}
+
+// 1: nothing is held; 0.
+pub fn is_empty(h: &[u32], b: &[u8]) -> i32
+    ensures { λ r. ⌜ r ≡ looks layout emptyOf (now (h .entry)) (now (b .entry)) ⌝ }
+{
+    if !formed(h, b) {
+        return EINVAL;
+    }
+    if h[2] == 0 { 1 } else { 0 }
+}
+
+// 1: nothing is free; 0.
+pub fn is_full(h: &[u32], b: &[u8]) -> i32
+    ensures { λ r. ⌜ r ≡ looks layout fullOf (now (h .entry)) (now (b .entry)) ⌝ }
+{
+    if !formed(h, b) {
+        return EINVAL;
+    }
+    if h[2] == h[0] { 1 } else { 0 }
+}
+
+pub fn is_open(h: &[u32], b: &[u8]) -> i32
+    ensures { λ r. ⌜ r ≡ looks layout (λ (p : Pipe). flag (p .opened)) (now (h .entry)) (now (b .entry)) ⌝ }
+{
+    if !formed(h, b) {
+        return EINVAL;
+    }
+    if opened(h[3]) { 1 } else { 0 }
+}
+
+pub fn is_resetting(h: &[u32], b: &[u8]) -> i32
+    ensures { λ r. ⌜ r ≡ looks layout (λ (p : Pipe). flag (p .resetting)) (now (h .entry)) (now (b .entry)) ⌝ }
+{
+    if !formed(h, b) {
+        return EINVAL;
+    }
+    if FLAG_RESET <= h[3] { 1 } else { 0 }
+}
+
+// Whether a pipe can have these numbers, where somebody waits, which is so only if used is at.
+fn proper(used: u32, size: u32, flags: u32, waits: bool, at: u32) -> bool
+    ensures { λ r. ⌜ r ≡ properNumbers used «size» flags waits at ⌝ }
+{
+    if size == 0 {
+        return false;
+    }
+    if size < used {
+        return false;
+    }
+    if BOTH < flags {
+        return false;
+    }
+    if waits {
+        return used == at;
+    }
+    true
+}
+
+// GOES; WAKES: the bytes go to the reader that waits; PENDS: the caller is to wait. Refusals as write, and EINVAL: a reader that waits while there are bytes.
+pub fn write_decide(
+    used: u32,
+    size: u32,
+    flags: u32,
+    request_len: u32,
+    has_reader: bool,
+    actual_bytes: &mut u32,
+    new_used: &mut u32,
+) -> i32
+    ensures { λ r. ⌜ Decided (writeDecision used «size» flags «request_len» «has_reader») (now («actual_bytes» .entry)) (now («new_used» .entry)) r (now («actual_bytes» .exit)) (now («new_used» .exit)) ⌝ }
+{
+    if !proper(used, size, flags, has_reader, 0) {
+        return EINVAL;
+    }
+    if FLAG_RESET <= flags {
+        return ECANCELED;
+    }
+    if flags == 0 {
+        return EPIPE;
+    }
+    if request_len == 0 {
+        return ENOMSG;
+    }
+    if used == size {
+        *actual_bytes = 0;
+        *new_used = used;
+        return PENDS;
+    }
+    let n = least(request_len, size - used);
+    *actual_bytes = n;
+    if has_reader {
+        *new_used = 0;
+        return WAKES;
+    }
+    *new_used = used + n;
+    GOES
+}
+
+// GOES; WAKES: then the writer that waits is to write; PENDS: the caller is to wait. Refusals as read, and EINVAL: a writer that waits while there is room.
+pub fn read_decide(
+    used: u32,
+    size: u32,
+    flags: u32,
+    request_len: u32,
+    has_writer: bool,
+    actual_bytes: &mut u32,
+    new_used: &mut u32,
+) -> i32
+    ensures { λ r. ⌜ Decided (readDecision used «size» flags «request_len» «has_writer») (now («actual_bytes» .entry)) (now («new_used» .entry)) r (now («actual_bytes» .exit)) (now («new_used» .exit)) ⌝ }
+{
+    if !proper(used, size, flags, has_writer, size) {
+        return EINVAL;
+    }
+    if FLAG_RESET <= flags {
+        return ECANCELED;
+    }
+    if request_len == 0 {
+        return ENOMSG;
+    }
+    if used == 0 {
+        if flags == 0 {
+            return EPIPE;
+        }
+        *actual_bytes = 0;
+        *new_used = used;
+        return PENDS;
+    }
+    let n = least(request_len, used);
+    *actual_bytes = n;
+    *new_used = used - n;
+    if has_writer {
+        return WAKES;
+    }
+    GOES
+}
