@@ -3,6 +3,7 @@ pub mod condvars;
 pub mod futexes;
 pub mod msgqs;
 pub mod mutexes;
+pub mod pipes;
 pub mod queues;
 pub mod rings;
 pub mod semaphores;
