@@ -39,7 +39,7 @@ difference-low g n f =
     let y : low (g + n) ≡ x + n - 4294967296 = e ∙ mod-eq-sub-mod h ∙ z in
     rw y (rw (lt-leb x (x + n - 4294967296) (omega arith)) (omega arith)))
 
-wrap-mod : (x c : ℕ) → x < c + c → wrap x c ≡ x % c
+pub wrap-mod : (x c : ℕ) → x < c + c → wrap x c ≡ x % c
 wrap-mod x c h =
     by-lt x c (λ f. wrap-low x c f ∙ sym (mod-eq-of-lt f)) (λ f. wrap-high x c f ∙ sym (mod-eq-sub-mod f ∙ mod-eq-of-lt (omega arith)))
 

@@ -3,3 +3,5 @@ pub mod Parts
 pub mod Headers
 pub mod Answers
 pub mod Counting
+pub mod Calls
+pub mod Histories

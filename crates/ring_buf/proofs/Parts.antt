@@ -17,17 +17,17 @@ copied d s i hs hd =
     ∙ set-at (take i s) (getD d i 0) (drop (suc i) d) (getD s i 0) i (length-take-le i s (omega arith))
     ∙ sym (append-snoc (take i s) (getD s i 0) (drop (suc i) d)) ∙ ap (λ (l : List ℕ). l ++ drop (suc i) d) (sym (take-suc s i 0 hs))
 
-take-least : (s : List ℕ) (m : ℕ) → take (min (length s) m) s ≡ take m s
-take-least s m =
-    by-lt (length s) m
-    (λ f. let e : min (length s) m ≡ length s = omega arith in ap (λ (n : ℕ). take n s) e ∙ take-all (length s) s (omega arith) ∙ sym (take-all m s (omega arith)))
-    (λ f. let e : min (length s) m ≡ m = omega arith in ap (λ (n : ℕ). take n s) e)
+pub take-least : (m : ℕ) (s : List ℕ) → take m s ≡ take (min m (length s)) s
+take-least m s =
+    by-lt m (length s)
+    (λ f. let e : m ≡ min m (length s) = omega arith in ap (λ (n : ℕ). take n s) e)
+    (λ f. let e : length s ≡ min m (length s) = omega arith in take-all m s f ∙ sym (take-all (length s) s (omega arith)) ∙ ap (λ (n : ℕ). take n s) e)
 
 -- all are copied
 pub filled : (d s d' : List ℕ) (n i : ℕ) → n ≡ min (length s) (length d) → i ≤ n → n ≤ i → d' ≡ take i s ++ drop i d → Filled (take (length d) s) d d'
 filled d s d' n i e h g is =
-    let x : i ≡ min (length s) (length d) = omega arith in
-    let y : take i s ≡ take (length d) s = ap (λ (k : ℕ). take k s) x ∙ take-least s (length d) in
+    let x : i ≡ min (length d) (length s) = omega arith in
+    let y : take i s ≡ take (length d) s = ap (λ (k : ℕ). take k s) x ∙ sym (take-least (length d) s) in
     let z : i ≡ length (take (length d) s) = omega (arith, length-take (length d) s) in
     is ∙ (λ k. y k ++ drop (z k) d)
 

@@ -1,3 +1,4 @@
 pub mod Ring
 pub mod Bytes
 pub mod Counters
+pub mod History

@@ -1,0 +1,77 @@
+-- What one call does to a ring: it adds, it takes, it clears, or nothing changes. Assumes nothing.
+use mathlib.Core.Path.{_≡_, refl, ap, _∙_}
+use mathlib.Core.Bool.{Bool, true, false, cond}
+use mathlib.Core.List.{List, [], _∷_}
+use Prim.Native.Nat.{ℕ, _≤_, min}
+use native.Mathlib.Omega.{arith}
+use lib.Dec.{ltb}
+use lib.IntN.{ℤ, pos, negsuc}
+use lib.ListN.{length, take, drop, length-take}
+use lib.Seq.{take-at}
+use Rattle.store.specs.Store.{answer, Filled}
+use Rattle.store.specs.History.{left}
+use Rattle.ring_buf.specs.Ring.{Ring, append, leave, clear}
+use Rattle.ring_buf.specs.Bytes.{put, get, putMany, getMany, peek, gotten}
+use Rattle.ring_buf.specs.History.{Call, putting, getting, puttingMany, gettingMany, peeking, resetting, does, gives, putBy, gotBy, wipes}
+use Rattle.ring_buf.proofs.Parts.{take-least}
+
+abbrev pub mk : ℕ → ℕ → List ℕ → List ℕ → Ring ℕ
+mk c t l p = record { capacity = c; start = t; held = l; spare = p }
+
+-- the call k, answered a, with o in its place for what is handed out, makes this of the ring r
+pub data Acts (r : Ring ℕ) (k : Call) (a : ℤ) (o : List ℕ) : Ring ℕ → Type 0 where
+  adds : (l : List ℕ) → length l ≤ length (r .spare) → wipes k a ≡ false → putBy k a ≡ l → gotBy k a o ≡ [] → Acts r k a o (append l r)
+  takes : (n : ℕ) → n ≤ length (r .held) → wipes k a ≡ false → putBy k a ≡ [] → gotBy k a o ≡ take n (r .held) → Acts r k a o (leave n r)
+  stays : wipes k a ≡ false → putBy k a ≡ [] → gotBy k a o ≡ [] → Acts r k a o r
+  clears : wipes k a ≡ true → gotBy k a o ≡ [] → Acts r k a o (clear r)
+
+module _ (c t : ℕ) where
+  put-acts : (l p : List ℕ) (x : ℕ) (o : List ℕ) → Acts (mk c t l p) (putting x) (answer (put x (mk c t l p))) o (left (put x (mk c t l p)) (mk c t l p))
+  put-acts l [] x o = stays refl refl refl
+  put-acts l (y ∷ p) x o = adds (x ∷ []) (omega arith) refl refl refl
+
+  get-acts : (l p o o' : List ℕ) → Filled (gotten 1 (mk c t l p)) o o' → Acts (mk c t l p) getting (answer (get (mk c t l p))) o' (left (get (mk c t l p)) (mk c t l p))
+  get-acts [] p o o' f = stays refl refl refl
+  get-acts (y ∷ l) p o o' f = takes 1 (omega arith) refl refl (ap (take 1) f)
+
+  get-n-acts : (n : ℕ) (l p o o' : List ℕ) → Filled (gotten n (mk c t l p)) o o'
+      → Acts (mk c t l p) (gettingMany n) (answer (getMany n (mk c t l p))) o' (leave (min n (length l)) (mk c t l p))
+  get-n-acts n l p o o' f =
+      let m = min n (length l) in
+      takes m (omega arith) refl refl (ap (take m) f ∙ take-at (take n l) (drop (length (take n l)) o) m (length-take n l) ∙ take-least n l)
+
+  peek-acts : (i : ℕ) (l p o : List ℕ) → Acts (mk c t l p) (peeking i) (answer (peek i (mk c t l p))) o (left (peek i (mk c t l p)) (mk c t l p))
+  peek-acts i l p o = go (ltb i (length l)) refl
+    where
+      go : (b : Bool) → ltb i (length l) ≡ b → Acts (mk c t l p) (peeking i) (answer (peek i (mk c t l p))) o (left (peek i (mk c t l p)) (mk c t l p))
+      go true e = rw e (stays refl refl refl)
+      go false e = rw e (stays refl refl refl)
+
+  pub which : (l p : List ℕ) (k : Call) (o o' : List ℕ) → Filled (gives k (mk c t l p)) o o' → Acts (mk c t l p) k (answer (does k (mk c t l p))) o' (left (does k (mk c t l p)) (mk c t l p))
+  which l p (putting x) o o' f = put-acts l p x o'
+  which l p getting o o' f = get-acts l p o o' f
+  which l p (puttingMany q) o o' f = adds (take (min (length q) (length p)) q) (omega (arith, length-take (min (length q) (length p)) q)) refl refl refl
+  which l p (gettingMany n) o o' f = get-n-acts n l p o o' f
+  which l p (peeking i) o o' f = peek-acts i l p o'
+  which l p resetting o o' f = clears refl refl
+
+  peeks : (i : ℕ) (l p : List ℕ) → left (peek i (mk c t l p)) (mk c t l p) ≡ mk c t l p
+  peeks i l p = go (ltb i (length l)) refl
+    where
+      go : (b : Bool) → ltb i (length l) ≡ b → left (peek i (mk c t l p)) (mk c t l p) ≡ mk c t l p
+      go true f = rw f
+      go false f = rw f
+
+  -- a code below 0
+  pub refused : (l p : List ℕ) (k : Call) (n : ℕ) → answer (does k (mk c t l p)) ≡ negsuc n → left (does k (mk c t l p)) (mk c t l p) ≡ mk c t l p
+  refused l [] (putting x) n e = refl
+  refused l (y ∷ p) (putting x) n e = absurd (let z : _≡_ {A = ℕ} 0 1 = cc in omega arith)
+  refused [] p getting n e = refl
+  refused (y ∷ l) p getting n e = absurd (let z : _≡_ {A = ℕ} 0 1 = cc in omega arith)
+  refused l p (puttingMany q) n e = absurd (let z : _≡_ {A = ℕ} 0 1 = cc in omega arith)
+  refused l p (gettingMany m) n e = absurd (let z : _≡_ {A = ℕ} 0 1 = cc in omega arith)
+  refused l p (peeking i) n e = peeks i l p
+  refused l p resetting n e = absurd (let z : _≡_ {A = ℕ} 0 1 = cc in omega arith)
+
+pub peeked : (i : ℕ) (r : Ring ℕ) → left (peek i r) r ≡ r
+peeked i r = peeks (r .capacity) (r .start) i (r .held) (r .spare)

@@ -1,0 +1,76 @@
+-- Steps that are made in memory are steps of the object that it holds. Assumes nothing.
+use mathlib.Core.Path.{_≡_, refl, sym, ap, subst, _∙_}
+use mathlib.Core.Bool.{Bool, true, false, cond}
+use mathlib.Core.List.{List, [], _∷_}
+use Prim.Native.Nat.{ℕ, _≤_}
+use native.Mathlib.Omega.{arith}
+use lib.Dec.{leb}
+use lib.IntN.{ℤ}
+use lib.ListN.{length}
+use Rattle.thread.specs.Code.{ok, einval}
+use Rattle.store.specs.Store.{Reply, refuse, accept, answer, Place, After, Did, looks, handed, Filled, first, Started}
+use Rattle.store.specs.History.{Step, left, Ran, fresh, ran, Made, begun, made}
+use Rattle.store.proofs.Laws.{replies, answers, did-bad, looks-is, looks-bad, handed-is}
+
+module _ {S : Type 0} (P : Place S) where
+  leaves : (y : Reply S) (h b h' b' : List ℕ) → P .formed h b ≡ true → After P y h b h' b'
+      → (P .formed h' b' ≡ true) × (P .object h' b' ≡ left y (P .object h b))
+  leaves (refuse r) h b h' b' e a = rw (a .0, a .1) (e, refl)
+  leaves (accept s r) h b h' b' e a = (a .formed, a .object)
+
+  -- one call
+  pub done : (f : S → Reply S) (h b h' b' : List ℕ) {r : ℤ} → P .formed h b ≡ true → Did P f h b r h' b'
+      → (P .formed h' b' ≡ true) × (P .object h' b' ≡ left (f (P .object h b)) (P .object h b))
+  done f h b h' b' e d = leaves (f (P .object h b)) h b h' b' e (subst (λ (y : Reply S). After P y h b h' b') (replies P f h b e) (d .after))
+
+  -- a call that only reads
+  pub did-look : (f : S → Reply S) (h b : List ℕ) {r : ℤ} → ((s : S) → left (f s) s ≡ s) → r ≡ looks P (λ s. answer (f s)) h b → Did P f h b r h b
+  did-look f h b {r} n e = go (P .formed h b) refl
+    where
+      after : (y : Reply S) → P .formed h b ≡ true → left y (P .object h b) ≡ P .object h b → After P y h b h b
+      after (refuse c) k l = (refl, refl)
+      after (accept s c) k l = record { formed = k; object = sym l; beside = refl; rest = refl; long = (refl, refl) }
+
+      go : (x : Bool) → P .formed h b ≡ x → Did P f h b r h b
+      go true k =
+          record {
+            code = e ∙ looks-is P h b (λ s. answer (f s)) k ∙ sym (ap answer (replies P f h b k));
+            after = subst (λ (y : Reply S). After P y h b h b) (sym (replies P f h b k)) (after (f (P .object h b)) k (n (P .object h b)));
+          }
+      go false k = subst (λ (c : ℤ). Did P f h b c h b) (sym (e ∙ looks-bad P h b (λ s. answer (f s)) k)) (did-bad P f h b k)
+
+-- a place for one
+pub first-filled : (l : List ℕ) (x y : ℕ) → length l ≤ 1 → y ≡ first x l → Filled l (x ∷ []) (y ∷ [])
+first-filled [] x y f e = ap (λ (z : ℕ). z ∷ []) e
+first-filled (z ∷ []) x y f e = ap (λ (z : ℕ). z ∷ []) e
+first-filled (z ∷ w ∷ l) x y f e = absurd (omega arith)
+
+module _ {S K : Type 0} (P : Place S) (does : K → S → Reply S) (gives : K → S → List ℕ) where
+  pub runs : {h₀ b₀ : List ℕ} → P .formed h₀ b₀ ≡ true → {ss : List (Step K)} {h b : List ℕ} → Made P does gives h₀ b₀ ss h b
+      → (P .formed h b ≡ true) × Ran does gives (P .object h₀ b₀) ss (P .object h b)
+  runs e begun = (e, fresh)
+  runs {h₀} {b₀} e (made {ss} {k} {r} {h} {b} {h'} {b'} o o' m d f) =
+      let a = runs e m in
+      let t = done P (does k) h b h' b' (a .0) d in
+      let g : Filled (gives k (P .object h b)) o o' = rw (handed-is P h b (gives k) (a .0)) at f in (
+        t .0,
+        subst (λ (s : S). Ran does gives (P .object h₀ b₀) (record { call = k; answer = r; out = o' } ∷ ss) s) (sym (t .1))
+            (subst (λ (z : ℤ). Ran does gives (P .object h₀ b₀) (record { call = k; answer = z; out = o' } ∷ ss) (left (does k (P .object h b)) (P .object h b)))
+            (sym (answers P (does k) h b d (a .0))) (ran o o' (a .1) g)),
+      )
+
+  -- after a start that is answered 0
+  pub from-start : {m : Bool} {s : S} {h b h₀ b₀ : List ℕ} → Started P m s h b ok h₀ b₀ → {ss : List (Step K)} {h' b' : List ℕ} → Made P does gives h₀ b₀ ss h' b'
+      → (P .formed h' b' ≡ true) × Ran does gives s ss (P .object h' b')
+  from-start x {ss} {h'} {b'} m =
+      let a = runs (x .made refl .formed) m in
+      (a .0, subst (λ (t : S). Ran does gives t ss (P .object h' b')) (x .made refl .object) (a .1))
+
+-- what was started may be
+pub allowed : {S : Type 0} {P : Place S} {m : Bool} {s : S} {h b h' b' : List ℕ} → Started P m s h b ok h' b' → m ≡ true
+allowed {P = P} {m} {h = h} x = go (leb (P .words) (length h)) m (x .code)
+  where
+    go : (a m : Bool) → ok ≡ cond a (cond m ok einval) einval → m ≡ true
+    go true true e = refl
+    go true false e = absurd (let y : _≡_ {A = ℕ} 0 1 = cc in omega arith)
+    go false m e = absurd (let y : _≡_ {A = ℕ} 0 1 = cc in omega arith)
