@@ -1,18 +1,16 @@
 -- What each function's answer means for the ring. Assumes nothing.
 use mathlib.Core.Path.{_≡_, refl, sym, ap, _∙_}
-use mathlib.Core.Bool.{true, false, cond}
+use mathlib.Core.Bool.{true}
 use mathlib.Core.List.{List, [], _∷_, _++_}
 use Prim.Native.Nat.{ℕ, suc, _+_, _-_, _≤_, _<_, min}
 use native.Mathlib.Omega.{arith}
 use native.Mathlib.Numerals.{add-one}
 use borrow.Author.Tests.{lt-ltb, le-ltb, lt-leb, le-leb}
-use lib.Dec.{leb}
-use lib.IntN.{ℤ, pos}
+use lib.IntN.{pos}
 use lib.ListN.{length, take, drop, getD, set, length-set, length-take, drop-of-length-le}
 use lib.Seq.{set-split, append-snoc, take-all, take-take, paste, length-take-le, getD-take, drop-cons}
-use Rattle.seq.specs.List.{any}
 use Rattle.thread.specs.Code.{ok, eagain, einval}
-use Rattle.store.specs.Store.{Reply, accept, refuse, answer, Becomes, Did, looks, handed, Filled, first, Started}
+use Rattle.store.specs.Store.{accept, answer, Becomes, Did, looks, handed, Filled, Started}
 use Rattle.store.proofs.Laws.{any-some, any-none, did-no, did-yes, looks-is, handed-is, start-short, start-bad, start-made}
 use Rattle.ring_buf.specs.Ring.{Ring, wrap, turn, ring, append, leave}
 use Rattle.ring_buf.specs.Bytes.{sound, held, bytes, new, may, put, get, putMany, getMany, peek, reset, gotten, seen, sizeOf, spaceOf, capacityOf, headOf, tailOf, empty, full}

@@ -1,18 +1,21 @@
 -- What one call does to a ring: it adds, it takes, it clears, or nothing changes. Assumes nothing.
 use mathlib.Core.Path.{_≡_, refl, ap, _∙_}
-use mathlib.Core.Bool.{Bool, true, false, cond}
-use mathlib.Core.List.{List, [], _∷_}
-use Prim.Native.Nat.{ℕ, _≤_, min}
+use mathlib.Core.Bool.{Bool, true, false}
+use mathlib.Core.List.{List, [], _∷_, _++_}
+use Prim.Native.Nat.{ℕ, _+_, _-_, _≤_, _<_, min}
 use native.Mathlib.Omega.{arith}
-use lib.Dec.{ltb}
-use lib.IntN.{ℤ, pos, negsuc}
-use lib.ListN.{length, take, drop, length-take}
-use lib.Seq.{take-at}
+use borrow.Author.Tests.{ltb-true, leb-true}
+use lib.Dec.{ltb, leb}
+use lib.IntN.{ℤ, negsuc}
+use lib.ListN.{length, take, drop, length-append, length-take, length-drop}
+use lib.Seq.{take-at, length-take-le}
 use Rattle.store.specs.Store.{answer, Filled}
 use Rattle.store.specs.History.{left}
+use Rattle.store.proofs.Laws.{both-true}
 use Rattle.ring_buf.specs.Ring.{Ring, append, leave, clear}
-use Rattle.ring_buf.specs.Bytes.{put, get, putMany, getMany, peek, gotten}
+use Rattle.ring_buf.specs.Bytes.{new, may, put, get, getMany, peek, gotten}
 use Rattle.ring_buf.specs.History.{Call, putting, getting, puttingMany, gettingMany, peeking, resetting, does, gives, putBy, gotBy, wipes}
+use Rattle.ring_buf.proofs.Rings.{wrap-below, length-turn}
 use Rattle.ring_buf.proofs.Parts.{take-least}
 
 abbrev pub mk : ℕ → ℕ → List ℕ → List ℕ → Ring ℕ
@@ -24,6 +27,27 @@ pub data Acts (r : Ring ℕ) (k : Call) (a : ℤ) (o : List ℕ) : Ring ℕ → 
   takes : (n : ℕ) → n ≤ length (r .held) → wipes k a ≡ false → putBy k a ≡ [] → gotBy k a o ≡ take n (r .held) → Acts r k a o (leave n r)
   stays : wipes k a ≡ false → putBy k a ≡ [] → gotBy k a o ≡ [] → Acts r k a o r
   clears : wipes k a ≡ true → gotBy k a o ≡ [] → Acts r k a o (clear r)
+
+-- each place is held or free, and the first within the capacity
+pub record Fits (r : Ring ℕ) : Type 0 where
+  pub whole : length (r .held) + length (r .spare) ≡ r .capacity
+  pub below : r .start < r .capacity
+
+pub acts-fit : {r r' : Ring ℕ} {k : Call} {a : ℤ} {o : List ℕ} → Acts r k a o r' → Fits r → Fits r' × (r' .capacity ≡ r .capacity)
+acts-fit (adds l f w e g) h = (record { whole = simp (length-append, length-drop) (omega (arith, h .whole)); below = h .below }, refl)
+acts-fit {r} (takes n f w e g) h =
+    let t = length-take-le n (r .held) f in
+    (record { whole = simp (length-append, length-drop, t) (omega (arith, h .whole)); below = wrap-below (r .start + n) (r .capacity) (omega (arith, h .whole, h .below)) }, refl)
+acts-fit (stays w e g) h = (h, refl)
+acts-fit {r} (clears w g) h =
+    let l = length-append (r .held) (r .spare) in
+    let n = length-turn (r .capacity - r .start) (r .held ++ r .spare) (omega (arith, h .whole)) in
+    (record { whole = omega (arith, h .whole); below = omega (arith, h .below) }, refl)
+
+pub new-fits : (c : ℕ) (b : List ℕ) → may c b ≡ true → Fits (new c b)
+new-fits c b m =
+    let f = both-true (ltb 0 c) (leb c (length b)) m in
+    record { whole = omega (arith, length-turn 0 (take c b) (omega arith), length-take-le c b (leb-true c (length b) (f .1))); below = ltb-true 0 c (f .0) }
 
 module _ (c t : ℕ) where
   put-acts : (l p : List ℕ) (x : ℕ) (o : List ℕ) → Acts (mk c t l p) (putting x) (answer (put x (mk c t l p))) o (left (put x (mk c t l p)) (mk c t l p))

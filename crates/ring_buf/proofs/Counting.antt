@@ -1,13 +1,13 @@
 -- Counters that run freely: what is decided on them, and when it agrees with the ring. Assumes nothing.
 use mathlib.Core.Path.{_≡_, refl, sym, ap, _∙_}
-use mathlib.Core.Logic.{_⊎_, ⊎-elim}
-use Prim.Native.Nat.{ℕ, _+_, _-_, _%_, _≤_, _<_, min}
+use mathlib.Core.Logic.{⊎-elim}
+use Prim.Native.Nat.{ℕ, _+_, _-_, _%_, _<_, min}
 use native.Mathlib.Omega.{arith}
 use native.Mathlib.Nat.{mod-lt, mod-eq-of-lt, mod-eq-sub-mod, mod-add-mod, mod-mod-of-dvd, dvd-of-mod-eq-zero}
 use borrow.Author.Tests.{le-leb, lt-leb, eq-eqb, ne-eqb}
 use lib.ListN.{length}
 use Rattle.ring_buf.specs.Ring.{Ring, wrap, tail}
-use Rattle.ring_buf.specs.Counters.{difference, offset, claimed, amount, room, low, Counted, Exact, Agrees}
+use Rattle.ring_buf.specs.Counters.{difference, offset, claimed, low, Counted, Exact, Agrees}
 use Rattle.ring_buf.proofs.Rings.{by-lt, wrap-low, wrap-high}
 
 -- ---- on plain numbers

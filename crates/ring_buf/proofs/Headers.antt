@@ -1,10 +1,10 @@
 -- A ring's header and buffer: what is tested, and what then holds. Assumes nothing.
-use mathlib.Core.Path.{_≡_, refl, sym, ap, _∙_}
-use mathlib.Core.Bool.{Bool, true, false, cond}
+use mathlib.Core.Path.{_≡_, refl, sym, _∙_}
+use mathlib.Core.Bool.{Bool, true, false, not, cond}
 use mathlib.Core.List.{List, [], _∷_}
 use Prim.Native.Nat.{ℕ, _≤_, _<_}
 use native.Mathlib.Omega.{arith}
-use borrow.Author.Tests.{lt-ltb, le-ltb, lt-leb, le-leb, leb-true, ltb-true}
+use borrow.Author.Tests.{lt-ltb, le-ltb, lt-leb, le-leb, leb-true, ltb-true, not-true, not-false}
 use lib.Dec.{ltb, leb}
 use lib.ListN.{length, getD}
 use Rattle.store.proofs.Laws.{both-true}
@@ -44,6 +44,13 @@ module _ (h b : List ℕ) where
 
   pub is-sound : Sound → sound h b ≡ true
   is-sound s = is-room (s .words) (s .start) (s .size) ∙ le-leb (getD h 0 0) (length b) (s .room)
+
+  -- by the answer of `formed`
+  pub passed : {r : Bool} → r ≡ sound h b → not r ≡ false → Sound
+  passed {r} e f = from-sound (sym e ∙ not-false r f)
+
+  pub failed : {r : Bool} → r ≡ sound h b → not r ≡ true → sound h b ≡ false
+  failed {r} e f = sym e ∙ not-true r f
 
 -- the words of a ring's header
 pub record Words (h b : List ℕ) : Type 0 where

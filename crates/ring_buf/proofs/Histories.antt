@@ -2,42 +2,38 @@
 use mathlib.Core.Path.{_≡_, refl, sym, ap, _∙_}
 use mathlib.Core.Bool.{Bool, true, false, cond}
 use mathlib.Core.List.{List, [], _∷_, _++_, append-assoc, append-nil}
-use Prim.Native.Nat.{ℕ, _+_, _-_, _%_, _≤_, _<_}
+use Prim.Native.Nat.{ℕ, _+_, _%_, _≤_, _<_}
 use native.Mathlib.Omega.{arith}
-use native.Mathlib.Nat.{mod-lt, mod-add-mod, add-zero, mod-eq-of-lt}
-use borrow.Author.Tests.{ltb-true, leb-true}
-use lib.Dec.{ltb, leb}
-use lib.IntN.{ℤ, negsuc}
+use native.Mathlib.Nat.{mod-add-mod, add-zero, mod-eq-of-lt}
+use lib.IntN.{ℤ}
 use lib.ListN.{length, take, drop, length-append, length-take, length-drop, take-append-drop}
 use lib.Seq.{drop-at, length-take-le}
 use Rattle.thread.specs.Code.{ok}
-use Rattle.store.specs.Store.{Reply, answer, Did, looks, handed, first, Started}
-use Rattle.store.specs.History.{Step, left, Ran, fresh, ran, Made, made}
-use Rattle.store.proofs.Laws.{both-true}
+use Rattle.store.specs.Store.{answer, Did, looks, handed, first, Started}
+use Rattle.store.specs.History.{Step, Ran, fresh, ran, Made, made}
 use Rattle.store.proofs.Histories.{did-look, first-filled, from-start, allowed}
-use Rattle.ring_buf.specs.Ring.{Ring, wrap, turn}
+use Rattle.ring_buf.specs.Ring.{Ring}
 use Rattle.ring_buf.specs.Bytes.{bytes, new, may, get, peek, gotten, seen}
 use Rattle.ring_buf.specs.Counters.{Counted}
 use Rattle.ring_buf.specs.History.{Call, getting, peeking, does, gives, got, line, puts, gets, Promise}
-use Rattle.ring_buf.proofs.Rings.{length-turn}
 use Rattle.ring_buf.proofs.Counting.{wrap-mod, agrees}
-use Rattle.ring_buf.proofs.Calls.{Acts, adds, takes, stays, clears, which, refused, peeked}
+use Rattle.ring_buf.proofs.Calls.{Acts, adds, takes, stays, clears, Fits, acts-fit, new-fits, which, refused, peeked}
 
 record Holds (c : ℕ) (ss : List (Step Call)) (r : Ring ℕ) : Type 0 where
   order : got ss ++ r .held ≡ line ss
   fixed : r .capacity ≡ c
-  whole : length (r .held) + length (r .spare) ≡ c
+  fits : Fits r
   size : puts ss ≡ gets ss + length (r .held)
   start : r .start ≡ gets ss % c
 
-module _ (c : ℕ) (pos : 0 < c) (ss : List (Step Call)) where
+module _ (c : ℕ) (ss : List (Step Call)) where
   -- one call keeps it
   acts-hold : {r r' : Ring ℕ} (k : Call) (a : ℤ) (o : List ℕ) → Holds c ss r → Acts r k a o r' → Holds c (record { call = k; answer = a; out = o } ∷ ss) r'
   acts-hold {r} k a o h (adds l f w e g) =
       record {
         order = rw (w, e, g, append-nil (got ss)) (sym (append-assoc (got ss) (r .held) l) ∙ ap (λ (q : List ℕ). q ++ l) (h .order));
         fixed = h .fixed;
-        whole = simp (length-append, length-drop) (omega (arith, h .whole));
+        fits = acts-fit {k = k} {a = a} {o = o} (adds l f w e g) (h .fits) .0;
         size = rw (w, e, g) (simp length-append (omega (arith, h .size)));
         start = rw (w, g, add-zero (gets ss)) (h .start);
       }
@@ -48,46 +44,34 @@ module _ (c : ℕ) (pos : 0 < c) (ss : List (Step Call)) where
             rw (w, e, g, append-nil (line ss))
             (append-assoc (got ss) (take n (r .held)) (drop n (r .held)) ∙ ap (λ (q : List ℕ). got ss ++ q) (take-append-drop n (r .held)) ∙ h .order);
         fixed = h .fixed;
-        whole = simp (length-append, length-drop, t) (omega (arith, h .whole));
+        fits = acts-fit {k = k} {a = a} {o = o} (takes n f w e g) (h .fits) .0;
         size = rw (w, e, g) (simp (length-drop, t) (omega (arith, h .size)));
         start =
             rw (w, g, t)
-            (wrap-mod (r .start + n) (r .capacity) (omega (arith, h .start, h .whole, h .fixed, mod-lt (gets ss) {m = c} pos))
-            ∙ (λ i. (h .start i + n) % h .fixed i) ∙ mod-add-mod (gets ss) c n);
+            (wrap-mod (r .start + n) (r .capacity) (omega (arith, h .fits .below, h .fits .whole)) ∙ (λ i. (h .start i + n) % h .fixed i) ∙ mod-add-mod (gets ss) c n);
       }
-  acts-hold {r} k a o h (stays w e g) =
+  acts-hold k a o h (stays w e g) =
       record {
         order = rw (w, e, g, append-nil (got ss), append-nil (line ss)) (h .order);
         fixed = h .fixed;
-        whole = h .whole;
+        fits = h .fits;
         size = rw (w, e, g) (omega (arith, h .size));
         start = rw (w, g, add-zero (gets ss)) (h .start);
       }
-  acts-hold {r} k a o h (clears w g) =
+  acts-hold k a o h (clears w g) =
       record {
         order = rw (w, g, append-nil (got ss)) (append-nil (got ss));
         fixed = h .fixed;
-        whole = omega (arith, length-turn (r .capacity - r .start) (r .held ++ r .spare) (omega (arith, length-append (r .held) (r .spare), h .fixed, h .whole)), length-append (r .held) (r .spare), h .whole);
+        fits = acts-fit {k = k} {a = a} {o = o} (clears w g) (h .fits) .0;
         size = rw w;
-        start = rw w (sym (mod-eq-of-lt pos));
+        start = rw w (sym (mod-eq-of-lt (omega (arith, h .fits .below, h .fixed))));
       }
 
 module _ (c : ℕ) (b : List ℕ) (m : may c b ≡ true) where
-  new-holds : Holds c [] (new c b)
-  new-holds =
-      let f = both-true (ltb 0 c) (leb c (length b)) m in
-      record {
-        order = refl;
-        fixed = refl;
-        whole = omega (arith, length-turn 0 (take c b) (omega arith), length-take-le c b (leb-true c (length b) (f .1)));
-        size = refl;
-        start = sym (mod-eq-of-lt (ltb-true 0 c (f .0)));
-      }
-
   holds : {ss : List (Step Call)} {r : Ring ℕ} → Ran does gives (new c b) ss r → Holds c ss r
-  holds fresh = new-holds
+  holds fresh = record { order = refl; fixed = refl; fits = new-fits c b m; size = refl; start = sym (mod-eq-of-lt (new-fits c b m .below)) }
   holds (ran {ss} {s = r} {k} o o' x f) =
-      acts-hold c (ltb-true 0 c (both-true (ltb 0 c) (leb c (length b)) m .0)) ss k (answer (does k r)) o' (holds x) (which (r .capacity) (r .start) (r .held) (r .spare) k o o' f)
+      acts-hold c ss k (answer (does k r)) o' (holds x) (which (r .capacity) (r .start) (r .held) (r .spare) k o o' f)
 
   pub promised : {ss : List (Step Call)} {r : Ring ℕ} → Ran does gives (new c b) ss r → Promise c ss r
   promised {ss} {r} x =
@@ -96,16 +80,16 @@ module _ (c : ℕ) (b : List ℕ) (m : may c b ≡ true) where
       λ f. record {
         size = h .size;
         start = h .start ∙ ap (λ (n : ℕ). gets ss % n) (sym (h .fixed));
-        whole = h .whole ∙ sym (h .fixed);
-        some = omega (arith, h .fixed, ltb-true 0 c (both-true (ltb 0 c) (leb c (length b)) m .0));
+        whole = h .fits .whole;
+        some = omega (arith, h .fits .below);
         small = omega (arith, h .fixed);
       } in
       record {
         order = h .order;
         held-is = sym (ap (drop (length (got ss))) (sym (h .order)) ∙ drop-at (got ss) (r .held) (length (got ss)) refl);
         fixed = h .fixed;
-        whole = h .whole;
-        bounded = omega (arith, h .whole);
+        whole = h .fits .whole ∙ h .fixed;
+        bounded = omega (arith, h .fits .whole, h .fixed);
         refused = λ k n e. refused (r .capacity) (r .start) (r .held) (r .spare) k n e;
         counted = p;
         agrees = λ f. agrees (puts ss) (gets ss) r (p f);

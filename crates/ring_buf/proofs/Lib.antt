@@ -3,5 +3,10 @@ pub mod Parts
 pub mod Headers
 pub mod Answers
 pub mod Counting
+pub mod Determined
 pub mod Calls
 pub mod Histories
+pub mod Upstream
+pub mod Others
+pub mod Lemmas
+pub mod Example

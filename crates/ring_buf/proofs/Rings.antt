@@ -1,14 +1,14 @@
 -- The laws of a ring in its buffer, for elements of any type.
 use mathlib.Core.Path.{_≡_, refl, sym, ap, _∙_}
-use mathlib.Core.List.{List, [], _∷_, _++_, append-assoc, append-nil}
-use Prim.Native.Nat.{ℕ, zero, suc, _+_, _-_, _≤_, _<_, min}
+use mathlib.Core.List.{List, [], _∷_, _++_, append-assoc}
+use Prim.Native.Nat.{ℕ, zero, suc, _+_, _-_, _≤_, _<_}
 use native.Mathlib.Decide.{decLt}
-use native.Mathlib.Nat.{zero-sub, sub-zero, suc-sub-suc, zero-add}
+use native.Mathlib.Nat.{zero-sub, sub-zero, suc-sub-suc}
 use native.Mathlib.Omega.{arith}
 use borrow.Author.Tests.{lt-ltb, le-ltb}
-use lib.ListN.{length, take, drop, length-append, length-take, length-drop, take-append-drop, drop-of-length-le}
-use lib.Seq.{take-append-le, drop-append-le, take-append-add, drop-append-add, take-at, drop-at, take-add, drop-drop, take-take, take-nil, take-all, paste, take-paste, drop-paste, length-paste}
-use Rattle.ring_buf.specs.Ring.{Ring, wrap, turn, ring, append, lead, leave, clear}
+use lib.ListN.{length, take, drop, length-append, length-take, length-drop, take-append-drop}
+use lib.Seq.{take-append-le, drop-append-le, take-append-add, drop-append-add, drop-at, take-add, drop-drop, take-take, take-nil, paste, take-paste, drop-paste}
+use Rattle.ring_buf.specs.Ring.{wrap, turn, ring, append, lead, leave, clear}
 
 pub wrap-low : (x n : ℕ) → x < n → wrap x n ≡ x
 unfolding wrap

@@ -1,6 +1,6 @@
 -- The ring of bytes in memory: h = capacity, the place of the first byte, how many bytes are held; b = the buffer, whose first bytes are the
 -- ring. What each function does.
-use mathlib.Core.Bool.{Bool, true, false, cond}
+use mathlib.Core.Bool.{Bool, false, cond}
 use mathlib.Core.List.{List, [], _∷_}
 use Prim.Native.Nat.{ℕ, min}
 use lib.Dec.{ltb, leb}

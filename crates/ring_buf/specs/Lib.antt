@@ -2,3 +2,4 @@ pub mod Ring
 pub mod Bytes
 pub mod Counters
 pub mod History
+pub mod Upstream

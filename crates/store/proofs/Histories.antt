@@ -8,7 +8,7 @@ use lib.Dec.{leb}
 use lib.IntN.{ℤ}
 use lib.ListN.{length}
 use Rattle.thread.specs.Code.{ok, einval}
-use Rattle.store.specs.Store.{Reply, refuse, accept, answer, Place, After, Did, looks, handed, Filled, first, Started}
+use Rattle.store.specs.Store.{Reply, refuse, accept, answer, Place, After, Did, looks, Filled, first, Started}
 use Rattle.store.specs.History.{Step, left, Ran, fresh, ran, Made, begun, made}
 use Rattle.store.proofs.Laws.{replies, answers, did-bad, looks-is, looks-bad, handed-is}
 

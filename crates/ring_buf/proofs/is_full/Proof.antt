@@ -1,41 +1,31 @@
-use mathlib.Core.Path.{_≡_, refl, sym, ap, _∙_}
+-- One law for each answer. Assumes nothing.
+use mathlib.Core.Path.{sym}
 use native.Mathlib.Omega.{arith}
-use borrow.Author.Tests.{not-true, not-false}
 use borrow.Author.Needs.{needs}
-use Rattle.ring_buf.proofs.Headers.{Sound, from-sound}
+use Rattle.ring_buf.proofs.Headers.{passed, failed}
 use Rattle.store.proofs.Laws.{looks-bad}
 use Rattle.ring_buf.specs.Bytes.{bytes, full}
 use Rattle.ring_buf.proofs.Answers.{full-told, free-told}
-use borrow.Author.Needs.{needs}
 use Rattle.ring_buf.proofs.is_full.Statement.{statement}
 use Rattle.ring_buf.proofs.is_full.Tie as tie
-use Rattle.ring_buf.proofs.is_full.Reads as reads
-use Rattle.ring_buf.proofs.is_full.Lts as lts
-use Rattle.ring_buf.proofs.formed.Reads as formed-reads
 
--- src/lib.rt:258:9
 formed-requires : tie.Need-formed-requires
 formed-requires c κs = search needs
 
--- src/lib.rt:259:9
 returns : tie.Need-returns
-returns c = sym (looks-bad bytes (c .before .before .before .before .args .h .now) (c .before .before .before .before .args .b .now) full (sym (c .before .formed .ensures) ∙ not-true _ (c .if1 .taken)))
+returns c = let a = c .before .before .before .before .args in sym (looks-bad bytes (a .h .now) (a .b .now) full (failed (a .h .now) (a .b .now) (c .before .formed .ensures) (c .if1 .taken)))
 
--- src/lib.rt:261:8
 shared-slice-read-if2 : tie.Need-shared-slice-read-if2
-shared-slice-read-if2 c = omega (arith, from-sound (c .before .before .before .before .before .args .h .now) (c .before .before .before .before .before .args .b .now) (sym (c .before .before .formed .ensures) ∙ not-false _ (c .before .if1 .left)))
+shared-slice-read-if2 c = let a = c .before .before .before .before .before .args in omega (arith, passed (a .h .now) (a .b .now) (c .before .before .formed .ensures) (c .before .if1 .left))
 
--- src/lib.rt:261:16
 shared-slice-read-if2-2 : tie.Need-shared-slice-read-if2-2
-shared-slice-read-if2-2 c = omega (arith, from-sound (c .before .before .before .before .before .before .args .h .now) (c .before .before .before .before .before .before .args .b .now) (sym (c .before .before .before .formed .ensures) ∙ not-false _ (c .before .before .if1 .left)))
+shared-slice-read-if2-2 c = let a = c .before .before .before .before .before .before .args in omega (arith, passed (a .h .now) (a .b .now) (c .before .before .before .formed .ensures) (c .before .before .if1 .left))
 
--- src/lib.rt:255:1
 returns-2 : tie.Need-returns-2
-returns-2 c = sym (full-told (c .before .before .before .before .before .before .before .args .h .now) (c .before .before .before .before .before .before .before .args .b .now) (from-sound (c .before .before .before .before .before .before .before .args .h .now) (c .before .before .before .before .before .before .before .args .b .now) (sym (c .before .before .before .before .formed .ensures) ∙ not-false _ (c .before .before .before .if1 .left))) (c .if2 .taken))
+returns-2 c = let a = c .before .before .before .before .before .before .before .args in sym (full-told (a .h .now) (a .b .now) (passed (a .h .now) (a .b .now) (c .before .before .before .before .formed .ensures) (c .before .before .before .if1 .left)) (c .if2 .taken))
 
--- src/lib.rt:255:1
 returns-3 : tie.Need-returns-3
-returns-3 c = sym (free-told (c .before .before .before .before .before .before .before .args .h .now) (c .before .before .before .before .before .before .before .args .b .now) (from-sound (c .before .before .before .before .before .before .before .args .h .now) (c .before .before .before .before .before .before .before .args .b .now) (sym (c .before .before .before .before .formed .ensures) ∙ not-false _ (c .before .before .before .if1 .left))) (c .if2 .left))
+returns-3 c = let a = c .before .before .before .before .before .before .before .args in sym (free-told (a .h .now) (a .b .now) (passed (a .h .now) (a .b .now) (c .before .before .before .before .formed .ensures) (c .before .before .before .if1 .left)) (c .if2 .left))
 
 pub is-full-spec : {M : Type 1} → statement M
 is-full-spec =

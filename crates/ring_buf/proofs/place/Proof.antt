@@ -1,16 +1,12 @@
+-- Both sides of the end. Assumes nothing.
 use mathlib.Core.Path.{sym}
 use Rattle.ring_buf.proofs.Rings.{wrap-low, wrap-high}
-use borrow.Author.Needs.{needs}
 use Rattle.ring_buf.proofs.place.Statement.{statement}
 use Rattle.ring_buf.proofs.place.Tie as tie
-use Rattle.ring_buf.proofs.place.Reads as reads
-use Rattle.ring_buf.proofs.place.Lts as lts
 
--- src/lib.rt:22:1
 returns : tie.Need-returns
 returns c = sym (wrap-low _ _ (c .if1 .taken))
 
--- src/lib.rt:22:1
 returns-2 : tie.Need-returns-2
 returns-2 c = sym (wrap-high _ _ (c .if1 .left))
 

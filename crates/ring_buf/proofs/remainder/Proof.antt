@@ -1,21 +1,16 @@
+-- Both sides of the divisor. Assumes nothing.
 use mathlib.Core.Path.{sym}
 use native.Mathlib.Nat.{mod-eq-of-lt}
 use borrow.Author.Needs.{needs}
-use borrow.Author.Needs.{needs}
 use Rattle.ring_buf.proofs.remainder.Statement.{statement}
 use Rattle.ring_buf.proofs.remainder.Tie as tie
-use Rattle.ring_buf.proofs.remainder.Reads as reads
-use Rattle.ring_buf.proofs.remainder.Lts as lts
 
--- src/lib.rt:301:27
 rem-result : tie.Need-rem-result
 rem-result c = search needs
 
--- src/lib.rt:297:1
 returns : tie.Need-returns
 returns c = sym (mod-eq-of-lt (c .if1 .taken))
 
--- src/lib.rt:297:1
 returns-2 : tie.Need-returns-2
 returns-2 c = search needs
 

@@ -1,43 +1,32 @@
-use mathlib.Core.Path.{_≡_, refl, sym, ap, _∙_}
+-- One law for each answer. Assumes nothing.
+use mathlib.Core.Path.{sym, _∙_}
 use native.Mathlib.Omega.{arith}
-use borrow.Author.Tests.{not-true, not-false}
 use borrow.Author.Needs.{needs}
-use Rattle.ring_buf.proofs.Headers.{Sound, from-sound}
+use Rattle.ring_buf.proofs.Headers.{passed, failed}
 use Rattle.seq.proofs.Integers.{answered64}
 use Rattle.store.proofs.Laws.{looks-bad}
 use Rattle.ring_buf.specs.Bytes.{bytes, sizeOf}
 use Rattle.ring_buf.proofs.Answers.{size-told}
-use borrow.Author.Needs.{needs}
 use Rattle.ring_buf.proofs.size_get.Statement.{statement}
 use Rattle.ring_buf.proofs.size_get.Tie as tie
-use Rattle.ring_buf.proofs.size_get.Reads as reads
-use Rattle.ring_buf.proofs.size_get.Lts as lts
-use Rattle.ring_buf.proofs.formed.Reads as formed-reads
-use Rattle.seq.proofs.signed.Reads as signed-reads
 
--- src/lib.rt:220:9
 formed-requires : tie.Need-formed-requires
 formed-requires c κs = search needs
 
--- src/lib.rt:221:16
 cast-result : tie.Need-cast-result
 cast-result c = search needs
 
--- src/lib.rt:221:9
 returns : tie.Need-returns
-returns c = sym (looks-bad bytes (c .before .before .before .before .args .h .now) (c .before .before .before .before .args .b .now) sizeOf (sym (c .before .formed .ensures) ∙ not-true _ (c .if1 .taken)))
+returns c = let a = c .before .before .before .before .args in sym (looks-bad bytes (a .h .now) (a .b .now) sizeOf (failed (a .h .now) (a .b .now) (c .before .formed .ensures) (c .if1 .taken)))
 
--- src/lib.rt:223:17
 shared-slice-read-signed : tie.Need-shared-slice-read-signed
-shared-slice-read-signed c = omega (arith, from-sound (c .before .before .before .before .before .args .h .now) (c .before .before .before .before .before .args .b .now) (sym (c .before .before .formed .ensures) ∙ not-false _ (c .before .if1 .left)))
+shared-slice-read-signed c = let a = c .before .before .before .before .before .args in omega (arith, passed (a .h .now) (a .b .now) (c .before .before .formed .ensures) (c .before .if1 .left))
 
--- src/lib.rt:223:5
 signed-requires : tie.Need-signed-requires
 signed-requires c κs = search needs
 
--- src/lib.rt:217:1
 returns-2 : tie.Need-returns-2
-returns-2 c = rw (answered64 {z = c .signed .result} (c .signed .ok)) (c .signed .ensures ∙ sym (size-told (c .before .before .before .before .before .before .args .h .now) (c .before .before .before .before .before .before .args .b .now) (from-sound (c .before .before .before .before .before .before .args .h .now) (c .before .before .before .before .before .before .args .b .now) (sym (c .before .before .before .formed .ensures) ∙ not-false _ (c .before .before .if1 .left)))))
+returns-2 c = let a = c .before .before .before .before .before .before .args in rw (answered64 {z = c .signed .result} (c .signed .ok)) (c .signed .ensures ∙ sym (size-told (a .h .now) (a .b .now) (passed (a .h .now) (a .b .now) (c .before .before .before .formed .ensures) (c .before .before .if1 .left))))
 
 pub size-get-spec : {M : Type 1} → statement M
 size-get-spec =
