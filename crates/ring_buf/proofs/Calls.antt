@@ -71,7 +71,8 @@ module _ (c t : ℕ) where
       go true e = rw e (stays refl refl refl)
       go false e = rw e (stays refl refl refl)
 
-  pub which : (l p : List ℕ) (k : Call) (o o' : List ℕ) → Filled (gives k (mk c t l p)) o o' → Acts (mk c t l p) k (answer (does k (mk c t l p))) o' (left (does k (mk c t l p)) (mk c t l p))
+  pub which : (l p : List ℕ) (k : Call) (o o' : List ℕ) → Filled (gives k (mk c t l p)) o o'
+      → Acts (mk c t l p) k (answer (does k (mk c t l p))) o' (left (does k (mk c t l p)) (mk c t l p))
   which l p (putting x) o o' f = put-acts l p x o'
   which l p getting o o' f = get-acts l p o o' f
   which l p (puttingMany q) o o' f = adds (take (min (length q) (length p)) q) (omega (arith, length-take (min (length q) (length p)) q)) refl refl refl

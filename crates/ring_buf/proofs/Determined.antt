@@ -47,7 +47,9 @@ module _ {s : Ring ℕ} {h b h₁ b₁ h₂ b₂ : List ℕ} (m : Becomes bytes 
       three h₁ h₂ (first .words) (second .words) (ap (λ (r : Ring ℕ). r .capacity) same) (ap (λ (r : Ring ℕ). r .start) same) size (m .beside ∙ sym (n .beside))
 
   pub buffer-only : b₁ ≡ b₂
-  buffer-only = go (getD h₁ 0 0) (getD h₂ 0 0) (getD h₁ 1 0) (getD h₂ 1 0) (ap (λ (r : Ring ℕ). r .capacity) same) (ap (λ (r : Ring ℕ). r .start) same) (first .start) (first .room) (second .room) ring-only (m .rest) (n .rest)
+  buffer-only =
+      go (getD h₁ 0 0) (getD h₂ 0 0) (getD h₁ 1 0) (getD h₂ 1 0) (ap (λ (r : Ring ℕ). r .capacity) same) (ap (λ (r : Ring ℕ). r .start) same)
+      (first .start) (first .room) (second .room) ring-only (m .rest) (n .rest)
     where
       ring-only : turn (getD h₁ 1 0) (take (getD h₁ 0 0) b₁) ≡ turn (getD h₂ 1 0) (take (getD h₂ 0 0) b₂)
       ring-only =

@@ -106,9 +106,12 @@ one false l = omega arith
 
 -- what get and peek_at ensure is a step too: the place for what is handed out is one byte
 module _ {h₀ b₀ h b : List ℕ} {ss : List (Step Call)} {r : ℤ} (x y : ℕ) (m : Made bytes does gives h₀ b₀ ss h b) where
-  pub get-made : {h' b' : List ℕ} → Did bytes get h b r h' b' → y ≡ first x (handed bytes (gotten 1) h b) → Made bytes does gives h₀ b₀ (record { call = getting; answer = r; out = y ∷ [] } ∷ ss) h' b'
+  pub get-made : {h' b' : List ℕ} → Did bytes get h b r h' b' → y ≡ first x (handed bytes (gotten 1) h b)
+      → Made bytes does gives h₀ b₀ (record { call = getting; answer = r; out = y ∷ [] } ∷ ss) h' b'
   get-made d e = made (x ∷ []) (y ∷ []) m d (first-filled (handed bytes (gotten 1) h b) x y (one (bytes .formed h b) (bytes .object h b .held)) e)
 
-  pub peek-made : (i : ℕ) → r ≡ looks bytes (λ s. answer (peek i s)) h b → y ≡ first x (handed bytes (seen i) h b) → Made bytes does gives h₀ b₀ (record { call = peeking i; answer = r; out = y ∷ [] } ∷ ss) h b
+  pub peek-made : (i : ℕ) → r ≡ looks bytes (λ s. answer (peek i s)) h b → y ≡ first x (handed bytes (seen i) h b)
+      → Made bytes does gives h₀ b₀ (record { call = peeking i; answer = r; out = y ∷ [] } ∷ ss) h b
   peek-made i e f =
-      made (x ∷ []) (y ∷ []) m (did-look bytes (peek i) h b (λ s. peeked i s) e) (first-filled (handed bytes (seen i) h b) x y (one (bytes .formed h b) (drop i (bytes .object h b .held))) f)
+      made (x ∷ []) (y ∷ []) m (did-look bytes (peek i) h b (λ s. peeked i s) e)
+      (first-filled (handed bytes (seen i) h b) x y (one (bytes .formed h b) (drop i (bytes .object h b .held))) f)

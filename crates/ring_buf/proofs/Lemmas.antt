@@ -89,7 +89,7 @@ invariant-inductive =
     record {
       init = λ c b m. fits-inv (new c b) (new-fits c b m);
       calls = λ s k i w. let o = gives k s ++ drop (length (gives k s)) [] in
-      fits-inv (left (does k s) s) (acts-fit (which (s .capacity) (s .start) (s .held) (s .spare) k [] o refl) (record { whole = w; below = i .head }) .0);
+          fits-inv (left (does k s) s) (acts-fit (which (s .capacity) (s .start) (s .held) (s .spare) k [] o refl) (record { whole = w; below = i .head }) .0);
     }
 
 pub put-get-roundtrip : (c t : ℕ) (l p : List ℕ) (x : ℕ) → Whole (mk c t l p) → length l < c → PutGet (mk c t l p) x

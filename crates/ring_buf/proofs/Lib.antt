@@ -1,12 +1,14 @@
 pub mod Rings
 pub mod Parts
 pub mod Headers
+pub mod Memory
 pub mod Answers
 pub mod Counting
 pub mod Determined
 pub mod Calls
 pub mod Histories
 pub mod Upstream
+pub mod Many
 pub mod Others
 pub mod Lemmas
 pub mod Example

@@ -1,0 +1,115 @@
+-- What a call makes of a ring in memory, by the three words of its header. Assumes nothing.
+use mathlib.Core.Path.{_≡_, refl, sym, ap, _∙_}
+use mathlib.Core.Bool.{true}
+use mathlib.Core.List.{List, [], _∷_, _++_}
+use Prim.Native.Nat.{ℕ, suc, _+_, _-_, _≤_, _<_, min}
+use native.Mathlib.Omega.{arith}
+use native.Mathlib.Numerals.{add-one}
+use lib.IntN.{pos}
+use lib.ListN.{length, take, drop, getD, set, length-set, length-take}
+use lib.Seq.{set-split, append-snoc, take-all, take-take, paste, length-take-le, getD-take, drop-cons}
+use Rattle.thread.specs.Code.{ok, eagain}
+use Rattle.store.specs.Store.{accept, Becomes, Did, handed, Filled}
+use Rattle.store.proofs.Laws.{any-some, any-none, did-no, did-yes, handed-is}
+use Rattle.ring_buf.specs.Ring.{Ring, wrap, turn, ring, append, leave}
+use Rattle.ring_buf.specs.Bytes.{sound, bytes, put, get, putMany, getMany, reset, gotten, seen}
+use Rattle.ring_buf.proofs.Rings.{by-lt, drop-take, wrap-below, length-turn, turn-part, appended, left, cleared, held-long, spare-long}
+use Rattle.ring_buf.proofs.Parts.{piece, beside}
+use Rattle.ring_buf.proofs.Headers.{is-sound, words}
+
+-- a store is a piece of one byte
+pub set-paste : (b : List ℕ) (a x : ℕ) → a < length b → set b a x ≡ paste b a (x ∷ []) 1
+set-paste b a x f = set-split b a x f ∙ sym (append-snoc (take a b) x (drop (suc a) b)) ∙ ap (λ (n : ℕ). take a b ++ (x ∷ []) ++ drop n b) (sym (add-one a))
+
+take-take-least : (m n : ℕ) (l : List ℕ) → take m (take n l) ≡ take (min m n) l
+take-take-least m n l =
+    by-lt m n
+    (λ f. let e : m ≡ min m n = omega arith in take-take m n l (omega arith) ∙ ap (λ (k : ℕ). take k l) e)
+    (λ f. let e : n ≡ min m n = omega arith in take-all m (take n l) (omega (arith, length-take n l)) ∙ ap (λ (k : ℕ). take k l) e)
+
+module _ (c t n : ℕ) (rest b : List ℕ) (h : t < c) (size : n ≤ c) (room : c ≤ length b) where
+  abbrev H : List ℕ
+  H = c ∷ t ∷ n ∷ rest
+
+  good : sound H b ≡ true
+  good = is-sound H b (record { words = omega arith; start = h; size = size; room = room })
+
+  abbrev B : List ℕ
+  B = take c b
+
+  long : length B ≡ c
+  long = length-take-le c b room
+
+  pub hold : length (take n (turn t B)) ≡ n
+  hold = held-long c t n B long h size
+
+  pub spared : length (drop n (turn t B)) ≡ c - n
+  spared = spare-long c t n B long h size
+
+  becomes : (t' n' : ℕ) (b' : List ℕ) {s : Ring ℕ} → t' < c → n' ≤ c → length b' ≡ length b → drop c b' ≡ drop c b → ring c t' n' (take c b') ≡ s
+      → Becomes bytes s H b (c ∷ t' ∷ n' ∷ rest) b'
+  becomes t' n' b' f g l d o =
+      record {
+        formed = is-sound (c ∷ t' ∷ n' ∷ rest) b' (record { words = omega arith; start = f; size = g; room = omega arith });
+        object = o;
+        beside = refl;
+        rest = d;
+        long = (refl, l);
+      }
+
+  pub put-full : (x : ℕ) → n ≡ c → Did bytes (put x) H b eagain H b
+  put-full x e = did-no bytes (put x) H b good (rw (any-none (drop n (turn t B)) (omega (arith, spared))) refl)
+
+  pub put-done : (x a : ℕ) → n < c → a ≡ wrap (t + n) c → Did bytes (put x) H b ok (c ∷ t ∷ (n + 1) ∷ rest) (set b a x)
+  put-done x a f e =
+      let w = wrap-below (t + n) c (omega arith) in
+      let p = set-paste b a x (omega arith) in
+      did-yes bytes (put x) H b good (rw (any-some (drop n (turn t B)) (omega (arith, spared))) refl)
+      (becomes t (n + 1) (set b a x) h (omega arith) (length-set b a x) (ap (drop c) p ∙ beside c t n a 1 b (x ∷ []) h room e (omega arith) (omega arith) (omega arith))
+      (appended c t n B long h size 1 (take c (set b a x)) (x ∷ []) (omega arith) (omega arith)
+      (ap (λ (l : List ℕ). turn t (take c l)) p ∙ piece c t n a 1 b (x ∷ []) h room e (omega arith) (omega arith) (omega arith))))
+
+  pub get-empty : n ≡ 0 → Did bytes get H b eagain H b
+  get-empty e = did-no bytes get H b good (rw (any-none (take n (turn t B)) (omega (arith, hold))) refl)
+
+  pub get-done : (t' : ℕ) → 0 < n → t' ≡ wrap (t + 1) c → Did bytes get H b ok (c ∷ t' ∷ (n - 1) ∷ rest) b
+  get-done t' f e =
+      did-yes bytes get H b good (rw (any-some (take n (turn t B)) (omega (arith, hold))) refl)
+      (becomes t' (n - 1) b (omega (arith, wrap-below (t + 1) c (omega arith))) (omega arith) refl refl
+      (ap (λ (x : ℕ). ring c x (n - 1) B) e ∙ left c t n B long h size 1 f))
+
+  pub put-n : (k : ℕ) (s b' : List ℕ) → k ≡ min (length s) (c - n) → length b' ≡ length b → turn t (take c b') ≡ paste (turn t B) n (take k s) (length (take k s)) → drop c b' ≡ drop c b
+      → Did bytes (putMany s) H b (pos k) (c ∷ t ∷ (n + k) ∷ rest) b'
+  put-n k s b' e l w d =
+      let m : length (take k s) ≡ k = length-take k s ∙ omega arith in
+      let x : k ≡ min (length s) (length (drop n (turn t B))) = e ∙ ap (min (length s)) (sym spared) in
+      let y : take (length (take k s)) (take k s) ≡ take k s = take-all (length (take k s)) (take k s) (omega arith) in
+      did-yes bytes (putMany s) H b good (λ i. accept (append (take (sym x i) s) (ring c t n B)) (pos (sym x i)))
+      (becomes t (n + k) b' h (omega arith) l d
+      (ap (λ (j : ℕ). ring c t (n + j) (take c b')) (sym m)
+      ∙ appended c t n B long h size (length (take k s)) (take c b') (take k s) (omega arith) (omega arith) w ∙ ap (λ (q : List ℕ). append q (ring c t n B)) y))
+
+  pub get-n : (o k t' : ℕ) → k ≡ min o n → t' ≡ wrap (t + k) c → Did bytes (getMany o) H b (pos k) (c ∷ t' ∷ (n - k) ∷ rest) b
+  get-n o k t' e w =
+      let x : k ≡ min o (length (take n (turn t B))) = e ∙ ap (min o) (sym hold) in
+      did-yes bytes (getMany o) H b good (λ i. accept (leave (sym x i) (ring c t n B)) (pos (sym x i)))
+      (becomes t' (n - k) b (omega (arith, wrap-below (t + k) c (omega arith))) (omega arith) refl refl
+      (ap (λ (y : ℕ). ring c y (n - k) B) w ∙ left c t n B long h size k (omega arith)))
+
+  pub clears : Did bytes reset H b ok (c ∷ 0 ∷ 0 ∷ rest) b
+  clears = did-yes bytes reset H b good refl (becomes 0 0 b (omega arith) (omega arith) refl refl (cleared c t n B long h size))
+
+  pub get-n-out : (o o' q : List ℕ) (k : ℕ) → k ≡ min (length o) n → q ≡ take (length (take k o)) (turn t B) → o' ≡ q ++ drop k o → Filled (handed bytes (gotten (length o)) H b) o o'
+  get-n-out o o' q k e w is =
+      let m : length (take k o) ≡ k = length-take k o ∙ omega arith in
+      let x : take (length o) (take n (turn t B)) ≡ take k (turn t B) = take-take-least (length o) n (turn t B) ∙ ap (λ (j : ℕ). take j (turn t B)) (sym e) in
+      let y : handed bytes (gotten (length o)) H b ≡ q = handed-is bytes H b (gotten (length o)) good ∙ x ∙ ap (λ (j : ℕ). take j (turn t B)) (sym m) ∙ sym w in
+      let z : k ≡ length q = sym (ap length w ∙ length-take (length (take k o)) (turn t B) ∙ omega (arith, length-turn t B (omega (arith, long)), long)) in
+      is ∙ (λ i. sym y i ++ drop ((z ∙ ap length (sym y)) i) o)
+
+  pub sees : (i a : ℕ) → i < n → a ≡ wrap (t + i) c → handed bytes (seen i) H b ≡ getD b a 0 ∷ []
+  sees i a f e =
+      let d : drop i (take n (turn t B)) ≡ take (n - i) (drop i (turn t B)) = drop-take i n (turn t B) in
+      handed-is bytes H b (seen i) good ∙ ap (take 1) d ∙ take-take 1 (n - i) (drop i (turn t B)) (omega arith)
+      ∙ sym (turn-part t i 1 a B (omega (arith, long)) (omega (arith, long)) (e ∙ ap (wrap (t + i)) (sym long)) (omega (arith, wrap-below (t + i) c (omega arith), long)))
+      ∙ ap (take 1) (drop-cons B a 0 (omega (arith, wrap-below (t + i) c (omega arith), long))) ∙ ap (λ (x : ℕ). x ∷ []) (getD-take c b a 0 (omega (arith, wrap-below (t + i) c (omega arith))))
