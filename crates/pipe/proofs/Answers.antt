@@ -1,27 +1,27 @@
 -- What each function's answer means for the pipe. Assumes nothing.
 use mathlib.Core.Path.{_≡_, refl, sym, ap, subst, _∙_}
-use mathlib.Core.Bool.{Bool, true, false, cond}
+use mathlib.Core.Bool.{Bool, true, false}
 use mathlib.Core.List.{List, []}
 use Prim.Native.Nat.{ℕ, _+_, _-_, _≤_, _<_, min}
 use native.Mathlib.Omega.{arith}
-use borrow.Author.Tests.{lt-ltb, le-ltb, lt-leb, le-leb, leb-true, ltb-true, eq-eqb}
+use borrow.Author.Tests.{lt-ltb, le-ltb, lt-leb, le-leb}
 use lib.IntN.{ℤ, pos}
 use lib.ListN.{length, take, getD, set}
 use lib.Seq.{take-all}
 use Rattle.thread.specs.Code.{ok, einval, eagain, epipe, enomsg, ecanceled}
-use Rattle.store.specs.Store.{Reply, refuse, accept, answer, carry, Becomes, Did, looks, handed, Started}
-use Rattle.store.proofs.Laws.{both-true, did-bad, did-no, did-yes, became, looks-is, handed-is, handed-bad, start-short, start-bad, start-made}
+use Rattle.store.specs.Store.{refuse, accept, answer, carry, Becomes, Did, looks, handed, Started}
+use Rattle.store.proofs.Laws.{did-no, did-yes, became, looks-is, handed-is, start-short, start-bad, start-made}
 use Rattle.ring_buf.specs.Ring.{Ring, append, leave, clear}
 use Rattle.ring_buf.specs.Bytes.{sound, held, bytes, new as newRing, may, putMany, getMany, gotten, reset as resetRing}
 use Rattle.ring_buf.proofs.Rings.{by-lt}
 use Rattle.ring_buf.proofs.Headers.{Sound, is-sound, from-sound}
 use Rattle.ring_buf.proofs.Answers.{held-is, spare-is, reset-done, made as made-ring}
-use Rattle.pipe.specs.Pipe.{Pipe, Verdict, never, later, move, writes, reads, moved, done, holding, toWrite, toRead, write, read, taken, reset, close, clearReset}
-use Rattle.pipe.specs.Post.{isOpen, isResetting, formed, object, layout, new, flag, Moves, goes, wakes, pends, decided, proper, writeDecision, readDecision, Decided}
+use Rattle.pipe.specs.Pipe.{Pipe, Verdict, move, writes, reads, moved, done, holding, toWrite, toRead, write, read, taken, reset, close, clearReset}
+use Rattle.pipe.specs.Post.{isOpen, isResetting, formed, object, layout, new, flag}
 use Rattle.pipe.proofs.Verdicts.{write-resetting, write-closed, write-none, write-full, write-moves, read-resetting, read-none, read-closed, read-empty, read-moves, resetting-on, resetting-off, open-on, open-off}
-use Rattle.pipe.proofs.Headers.{Formed, is-formed, is-ring, no-words, kept-flags, new-flags, on-ring}
+use Rattle.pipe.proofs.Headers.{Formed, is-formed, is-ring, kept-flags, new-flags, on-ring}
 
-take-least : (n : ℕ) (l : List ℕ) → take n l ≡ take (min n (length l)) l
+pub take-least : (n : ℕ) (l : List ℕ) → take n l ≡ take (min n (length l)) l
 take-least n l =
     by-lt n (length l)
     (λ f. let e : n ≡ min n (length l) = omega arith in ap (λ (k : ℕ). take k l) e)

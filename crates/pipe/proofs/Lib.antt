@@ -1,3 +1,6 @@
 pub mod Verdicts
 pub mod Headers
 pub mod Answers
+pub mod Histories
+pub mod HandOvers
+pub mod Example

@@ -6,8 +6,8 @@ use native.Mathlib.Omega.{arith}
 use borrow.Author.Tests.{lt-ltb, le-ltb, lt-leb, le-leb, leb-true, ltb-true, eq-eqb, ne-eqb, eqb-true}
 use lib.Dec.{eqb, ltb, leb}
 use lib.IntN.{ℤ}
-use Rattle.thread.specs.Code.{einval, eagain, epipe, enomsg, ecanceled}
-use Rattle.store.specs.Store.{Reply, refuse, accept, answer}
+use Rattle.thread.specs.Code.{einval, epipe, enomsg, ecanceled}
+use Rattle.store.specs.Store.{Reply, refuse, accept}
 use Rattle.store.proofs.Laws.{both-true}
 use Rattle.ring_buf.proofs.Rings.{by-lt}
 use Rattle.pipe.specs.Pipe.{Verdict, never, later, move, writes, reads}
@@ -96,6 +96,13 @@ module _ (used size f : ℕ) (w : Bool) (at : ℕ) where
         waits = λ g. eqb-true used at (sym (rw g refl) ∙ z .1);
       }
 
+module _ (used size f n : ℕ) (w : Bool) where
+  pub write-is : {v : Verdict} → proper used size f w 0 ≡ true → writes used size (isOpen f) (isResetting f) n ≡ v → writeDecision used size f n w ≡ decided used (cond w wakes goes) (λ k. cond w 0 (used + k)) v
+  write-is p e = rw p (ap (decided used (cond w wakes goes) (λ k. cond w 0 (used + k))) e)
+
+  pub read-is : {v : Verdict} → proper used size f w size ≡ true → reads used (isOpen f) (isResetting f) n ≡ v → readDecision used size f n w ≡ decided used (cond w wakes goes) (λ k. used - k) v
+  read-is p e = rw p (ap (decided used (cond w wakes goes) (λ k. used - k)) e)
+
 module _ (used size f n : ℕ) (w : Bool) (a u : ℕ) where
   pub write-improper : proper used size f w 0 ≡ false → Decided (writeDecision used size f n w) a u einval a u
   write-improper e = decided-no (rw e)
@@ -104,33 +111,27 @@ module _ (used size f n : ℕ) (w : Bool) (a u : ℕ) where
   read-improper e = decided-no (rw e)
 
   module _ (p : proper used size f w 0 ≡ true) where
-    write-is : {v : Verdict} → writes used size (isOpen f) (isResetting f) n ≡ v → writeDecision used size f n w ≡ decided used (cond w wakes goes) (λ k. cond w 0 (used + k)) v
-    write-is e = rw p (ap (decided used (cond w wakes goes) (λ k. cond w 0 (used + k))) e)
-
     pub write-refused : {c : ℤ} → writes used size (isOpen f) (isResetting f) n ≡ never c → Decided (writeDecision used size f n w) a u c a u
-    write-refused e = decided-no (write-is e)
+    write-refused e = decided-no (write-is used size f n w p e)
 
     pub write-pends : writes used size (isOpen f) (isResetting f) n ≡ later → Decided (writeDecision used size f n w) a u pends 0 used
-    write-pends e = decided-yes (write-is e)
+    write-pends e = decided-yes (write-is used size f n w p e)
 
     pub write-wakes : {k : ℕ} → w ≡ true → writes used size (isOpen f) (isResetting f) n ≡ move k → Decided (writeDecision used size f n w) a u wakes k 0
-    write-wakes {k} g e = decided-yes (write-is e ∙ rw g)
+    write-wakes {k} g e = decided-yes (write-is used size f n w p e ∙ rw g)
 
     pub write-goes : {k : ℕ} → w ≡ false → writes used size (isOpen f) (isResetting f) n ≡ move k → Decided (writeDecision used size f n w) a u goes k (used + k)
-    write-goes {k} g e = decided-yes (write-is e ∙ rw g)
+    write-goes {k} g e = decided-yes (write-is used size f n w p e ∙ rw g)
 
   module _ (p : proper used size f w size ≡ true) where
-    read-is : {v : Verdict} → reads used (isOpen f) (isResetting f) n ≡ v → readDecision used size f n w ≡ decided used (cond w wakes goes) (λ k. used - k) v
-    read-is e = rw p (ap (decided used (cond w wakes goes) (λ k. used - k)) e)
-
     pub read-refused : {c : ℤ} → reads used (isOpen f) (isResetting f) n ≡ never c → Decided (readDecision used size f n w) a u c a u
-    read-refused e = decided-no (read-is e)
+    read-refused e = decided-no (read-is used size f n w p e)
 
     pub read-pends : reads used (isOpen f) (isResetting f) n ≡ later → Decided (readDecision used size f n w) a u pends 0 used
-    read-pends e = decided-yes (read-is e)
+    read-pends e = decided-yes (read-is used size f n w p e)
 
     pub read-wakes : {k : ℕ} → w ≡ true → reads used (isOpen f) (isResetting f) n ≡ move k → Decided (readDecision used size f n w) a u wakes k (used - k)
-    read-wakes {k} g e = decided-yes (read-is e ∙ rw g)
+    read-wakes {k} g e = decided-yes (read-is used size f n w p e ∙ rw g)
 
     pub read-goes : {k : ℕ} → w ≡ false → reads used (isOpen f) (isResetting f) n ≡ move k → Decided (readDecision used size f n w) a u goes k (used - k)
-    read-goes {k} g e = decided-yes (read-is e ∙ rw g)
+    read-goes {k} g e = decided-yes (read-is used size f n w p e ∙ rw g)

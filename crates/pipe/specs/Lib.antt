@@ -1,2 +1,4 @@
 pub mod Pipe
 pub mod Post
+pub mod History
+pub mod HandOver

@@ -7,7 +7,7 @@ use Prim.Native.Nat.{ℕ, _+_, _-_}
 use lib.Dec.{eqb, ltb, leb}
 use lib.IntN.{ℤ, pos}
 use lib.ListN.{length, getD}
-use Rattle.thread.specs.Code.{ok, einval}
+use Rattle.thread.specs.Code.{einval}
 use Rattle.store.specs.Store.{Reply, refuse, accept, answer, settled, Place}
 use Rattle.ring_buf.specs.Bytes.{sound, held, new as newRing, sizeOf, spaceOf, capacityOf, empty, full}
 use Rattle.pipe.specs.Pipe.{Pipe, Verdict, never, later, move, writes, reads}

@@ -7,15 +7,13 @@ use thread::ENOMSG;
 use thread::EPIPE;
 use thread::OK;
 ghost use mathlib.Core.Path.{_≡_};
-ghost use mathlib.Core.Bool.{true, false};
-ghost use Prim.Native.Nat.{ℕ, _<_, _≤_, min};
-ghost use mathlib.Core.List.{List, []};
+ghost use Prim.Native.Nat.{_<_, _≤_, min};
+ghost use mathlib.Core.List.{[]};
 ghost use lib.ListN.{length, getD};
-ghost use lib.IntN.{ℤ};
 ghost use Rattle.store.specs.Store.{Did, looks, handed, Filled, Started};
 ghost use Rattle.ring_buf.specs.Bytes.{may};
 ghost use Rattle.pipe.specs.Pipe.{Pipe, write as doWrite, read as doRead, taken, reset as doReset, close as doClose, clearReset};
-ghost use Rattle.pipe.specs.Post.{isOpen, isResetting, formed as wellFormed, layout, new, size as sizeOf, data-held as dataOf, space as spaceOf, isEmpty as emptyOf, isFull as fullOf, flag, proper as properNumbers, writeDecision, readDecision, Decided};
+ghost use Rattle.pipe.specs.Post.{isOpen, formed as wellFormed, layout, new, size as sizeOf, data-held as dataOf, space as spaceOf, isEmpty as emptyOf, isFull as fullOf, flag, proper as properNumbers, writeDecision, readDecision, Decided};
 
 // Open, and resetting too: Gale's FLAG_OPEN and FLAG_RESET are bits.
 pub const FLAG_OPEN: u32 = 1;

@@ -1,0 +1,140 @@
+-- Runs of a pipe of four bytes, by computing: no premise of a theorem is empty.
+use mathlib.Core.Path.{_≡_, refl}
+use mathlib.Core.Bool.{true, false}
+use mathlib.Core.List.{List, [], _∷_}
+use Prim.Native.Nat.{ℕ}
+use native.Mathlib.Omega.{arith}
+use lib.IntN.{pos}
+use Rattle.thread.specs.Code.{ok, einval, eagain, epipe, enomsg, ecanceled}
+use Rattle.store.specs.Store.{Reply, refuse, accept, answer, reply, Started}
+use Rattle.ring_buf.specs.Ring.{wrap, turn}
+use Rattle.ring_buf.specs.Bytes.{may}
+use Rattle.pipe.specs.Pipe.{Pipe, write, read, taken, reset}
+use Rattle.pipe.specs.Post.{layout, new, wakes, pends, writeDecision, readDecision}
+use Rattle.pipe.specs.History.{Call, writes, reads, resets, closes, clears, does, Event, Runs, stop, call, account, nothing}
+use Rattle.pipe.specs.HandOver.{flags}
+
+-- the pipe after a reply
+abbrev next : Reply Pipe → Pipe → Pipe
+next (refuse c) p = p
+next (accept q r) p = q
+
+abbrev after : List Call → Pipe → Pipe
+after [] p = p
+after (k ∷ ks) p = after ks (next (does k p) p)
+
+abbrev fresh : Pipe
+fresh = new 4 (0 ∷ 0 ∷ 0 ∷ 0 ∷ [])
+
+abbrev three : Pipe
+three = after (writes (1 ∷ 2 ∷ 3 ∷ []) ∷ []) fresh
+
+abbrev full : Pipe
+full = after (writes (4 ∷ 5 ∷ []) ∷ []) three
+
+abbrev round : Pipe
+round = after (reads 2 ∷ writes (6 ∷ 7 ∷ 8 ∷ []) ∷ []) full
+
+-- as many as fit, and as many as there are, round the end
+fitted : answer (write (4 ∷ 5 ∷ []) three) ≡ pos 1
+unfolding turn
+fitted = refl
+
+again : write (6 ∷ []) full ≡ refuse eagain
+unfolding turn
+again = refl
+
+took : taken 2 full ≡ 1 ∷ 2 ∷ []
+unfolding turn
+took = refl
+
+turned : taken 9 round ≡ 3 ∷ 4 ∷ 6 ∷ 7 ∷ []
+unfolding turn
+turned = refl
+
+-- refusals, in their order
+empty-write : write [] three ≡ refuse enomsg
+unfolding turn
+empty-write = refl
+
+none-there : read 1 fresh ≡ refuse eagain
+unfolding turn
+none-there = refl
+
+closed-write : write (1 ∷ []) (after (closes ∷ []) three) ≡ refuse epipe
+unfolding turn
+closed-write = refl
+
+closed-read : taken 2 (after (closes ∷ []) three) ≡ 1 ∷ 2 ∷ []
+unfolding turn
+closed-read = refl
+
+closed-empty : read 1 (after (closes ∷ reads 3 ∷ []) three) ≡ refuse epipe
+unfolding turn
+closed-empty = refl
+
+reset-write : write [] (after (closes ∷ resets ∷ []) three) ≡ refuse ecanceled
+unfolding turn
+reset-write = refl
+
+reset-read : read 0 (after (resets ∷ []) three) ≡ refuse ecanceled
+unfolding turn
+reset-read = refl
+
+reset-over : taken 4 (after (resets ∷ clears ∷ writes (5 ∷ []) ∷ []) three) ≡ 5 ∷ []
+unfolding turn
+reset-over = refl
+
+-- ---- in memory: three bytes go in, one comes out, a reset takes two back, and a write is cancelled
+
+abbrev written : List ℕ
+written = 1 ∷ 2 ∷ 3 ∷ 9 ∷ []
+
+started : Started layout (may 4 (9 ∷ 9 ∷ 9 ∷ 9 ∷ [])) (new 4 (9 ∷ 9 ∷ 9 ∷ 9 ∷ [])) (7 ∷ 7 ∷ 7 ∷ 7 ∷ []) (9 ∷ 9 ∷ 9 ∷ 9 ∷ []) ok (4 ∷ 0 ∷ 0 ∷ 1 ∷ []) (9 ∷ 9 ∷ 9 ∷ 9 ∷ [])
+unfolding turn
+started = record { code = refl; made = λ e. record { formed = refl; object = refl; beside = refl; rest = refl; long = (refl, refl) }; kept = λ n e. absurd (let y : _≡_ {A = ℕ} 0 1 = cc in omega arith) }
+
+abbrev events : List Event
+events =
+    record { call = writes (1 ∷ 2 ∷ 3 ∷ []); answered = pos 3; given = [] } ∷ record { call = reads 1; answered = pos 1; given = 1 ∷ [] }
+    ∷ record { call = resets; answered = ok; given = [] } ∷ record { call = writes (4 ∷ []); answered = ecanceled; given = [] } ∷ []
+
+ran : Runs (4 ∷ 0 ∷ 0 ∷ 1 ∷ []) (9 ∷ 9 ∷ 9 ∷ 9 ∷ []) events (4 ∷ 0 ∷ 0 ∷ 3 ∷ []) written
+unfolding wrap turn
+ran =
+    call {h = 4 ∷ 0 ∷ 0 ∷ 1 ∷ []} {b = 9 ∷ 9 ∷ 9 ∷ 9 ∷ []} {h₁ = 4 ∷ 0 ∷ 3 ∷ 1 ∷ []} {b₁ = written} (writes (1 ∷ 2 ∷ 3 ∷ [])) (pos 3) []
+    (record { code = refl; after = record { formed = refl; object = refl; beside = refl; rest = refl; long = (refl, refl) } }) refl
+    (call {h = 4 ∷ 0 ∷ 3 ∷ 1 ∷ []} {b = written} {h₁ = 4 ∷ 1 ∷ 2 ∷ 1 ∷ []} {b₁ = written} (reads 1) (pos 1) (1 ∷ [])
+    (record { code = refl; after = record { formed = refl; object = refl; beside = refl; rest = refl; long = (refl, refl) } }) refl
+    (call {h = 4 ∷ 1 ∷ 2 ∷ 1 ∷ []} {b = written} {h₁ = 4 ∷ 0 ∷ 0 ∷ 3 ∷ []} {b₁ = written} resets ok []
+    (record { code = refl; after = record { formed = refl; object = refl; beside = refl; rest = refl; long = (refl, refl) } }) refl
+    (call {h = 4 ∷ 0 ∷ 0 ∷ 3 ∷ []} {b = written} {h₁ = 4 ∷ 0 ∷ 0 ∷ 3 ∷ []} {b₁ = written} (writes (4 ∷ [])) ecanceled [] (record { code = refl; after = (refl, refl) }) refl stop)))
+
+booked : account events nothing ≡ record { line = 1 ∷ []; got = 1 ∷ [] }
+booked = refl
+
+-- flags above 3
+malformed : reply layout (write (1 ∷ [])) (4 ∷ 0 ∷ 0 ∷ 5 ∷ []) written ≡ refuse einval
+malformed = refl
+
+-- ---- somebody waits
+
+-- a reader that asks for one byte while two are written: by the decision nothing is held, yet the second byte is left over. So request_len
+-- is to be at most what the reader asks for
+lost-decision : writeDecision 0 4 (flags fresh) 2 true ≡ accept (record { actual = 2; used = 0 }) wakes
+lost-decision = refl
+
+lost : after (writes (7 ∷ 8 ∷ []) ∷ reads 1 ∷ []) fresh .ring .held ≡ 8 ∷ []
+unfolding turn
+lost = refl
+
+enough : after (writes (7 ∷ 8 ∷ []) ∷ reads 2 ∷ []) fresh .ring .held ≡ []
+unfolding turn
+enough = refl
+
+-- a writer that waits at a full pipe
+writer : readDecision 4 4 (flags full) 3 true ≡ accept (record { actual = 3; used = 1 }) wakes
+writer = refl
+
+pending : writeDecision 4 4 1 2 false ≡ accept (record { actual = 0; used = 4 }) pends
+pending = refl

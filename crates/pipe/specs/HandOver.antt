@@ -1,0 +1,58 @@
+-- What the decide functions say, and what the pipe does.
+use mathlib.Core.Path.{_≡_}
+use mathlib.Core.Bool.{true, false, cond}
+use mathlib.Core.List.{List, [], _++_}
+use Prim.Native.Nat.{ℕ, _+_, _-_, min}
+use lib.IntN.{ℤ, pos}
+use lib.ListN.{length, take, drop}
+use Rattle.thread.specs.Code.{eagain}
+use Rattle.store.specs.Store.{Reply, refuse, accept}
+use Rattle.pipe.specs.Pipe.{Pipe, write, read, taken}
+use Rattle.pipe.specs.Post.{Moves, goes, wakes, pends, writeDecision, readDecision}
+
+-- the numbers of a pipe
+abbrev pub used : Pipe → ℕ
+used p = length (p .ring .held)
+
+abbrev pub flags : Pipe → ℕ
+flags p = cond (p .opened) 1 0 + cond (p .resetting) 2 0
+
+-- where nobody waits: the decision on the numbers, and what the pipe does, agree in code, in the bytes that move and in those held then;
+-- the caller is to wait where the pipe says to try again
+pub data Agree (p : Pipe) : Reply Moves → Reply Pipe → Type 0 where
+  refuses : (c : ℤ) → Agree p (refuse c) (refuse c)
+  waits : Agree p (accept (record { actual = 0; used = used p }) pends) (refuse eagain)
+  moves : (n : ℕ) (q : Pipe) → Agree p (accept (record { actual = n; used = used q }) goes) (accept q (pos n))
+
+abbrev pub writeOf : ℕ → Pipe → Reply Moves
+writeOf n p = writeDecision (used p) (p .ring .capacity) (flags p) n false
+
+abbrev pub readOf : ℕ → Pipe → Reply Moves
+readOf n p = readDecision (used p) (p .ring .capacity) (flags p) n false
+
+-- a reader waits, with room for n bytes, at an open and empty pipe: the write of l, and then the reader's read. As long as no more is written than the
+-- reader asks for, exactly what went in comes out, and the pipe is as empty as it was: the bytes can go straight to the reader
+pub record HandsOver (l : List ℕ) (n : ℕ) (p : Pipe) : Type 0 where
+  pub full : Pipe
+  pub after : Pipe
+  pub decided : writeDecision 0 (p .ring .capacity) (flags p) (length l) true ≡ accept (record { actual = min (length l) (p .ring .capacity); used = 0 }) wakes
+  pub write : write l p ≡ accept full (pos (min (length l) (p .ring .capacity)))
+  pub read : read n full ≡ accept after (pos (min (length l) (p .ring .capacity)))
+  pub bytes : taken n full ≡ take (min (length l) (p .ring .capacity)) l
+  pub empty : after .ring .held ≡ []
+
+-- a writer waits, with the bytes l, at an open and full pipe: the read of n bytes, and then the writer's write. What the writer wrote stands behind
+-- what was held
+pub record MakesRoom (n : ℕ) (l : List ℕ) (p : Pipe) : Type 0 where
+  pub room : Pipe
+  pub after : Pipe
+  pub decided : readDecision (used p) (p .ring .capacity) (flags p) n true ≡ accept (record { actual = min n (used p); used = used room }) wakes
+  pub read : read n p ≡ accept room (pos (min n (used p)))
+  pub bytes : taken n p ≡ take (min n (used p)) (p .ring .held)
+  pub write : write l room ≡ accept after (pos (min (length l) (min n (used p))))
+  pub held : after .ring .held ≡ drop (min n (used p)) (p .ring .held) ++ take (min (length l) (min n (used p))) l
+
+-- nobody waits for bytes while there are some, nor for room while there is some: nobody is overtaken
+pub record NobodyPassed (used size flags n : ℕ) (m : Moves) (r : ℤ) : Type 0 where
+  pub reader : writeDecision used size flags n true ≡ accept m r → used ≡ 0
+  pub writer : readDecision used size flags n true ≡ accept m r → used ≡ size
