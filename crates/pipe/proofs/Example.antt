@@ -6,22 +6,18 @@ use Prim.Native.Nat.{ℕ}
 use native.Mathlib.Omega.{arith}
 use lib.IntN.{pos}
 use Rattle.thread.specs.Code.{ok, einval, eagain, epipe, enomsg, ecanceled}
-use Rattle.store.specs.Store.{Reply, refuse, accept, answer, reply, Started}
+use Rattle.store.specs.Store.{refuse, accept, answer, reply, Started}
 use Rattle.ring_buf.specs.Ring.{wrap, turn}
 use Rattle.ring_buf.specs.Bytes.{may}
 use Rattle.pipe.specs.Pipe.{Pipe, write, read, taken, reset}
 use Rattle.pipe.specs.Post.{layout, new, wakes, pends, writeDecision, readDecision}
 use Rattle.pipe.specs.History.{Call, writes, reads, resets, closes, clears, does, Event, Runs, stop, call, account, nothing}
 use Rattle.pipe.specs.HandOver.{flags}
-
--- the pipe after a reply
-abbrev next : Reply Pipe → Pipe → Pipe
-next (refuse c) p = p
-next (accept q r) p = q
+use Rattle.pipe.proofs.Histories.{left}
 
 abbrev after : List Call → Pipe → Pipe
 after [] p = p
-after (k ∷ ks) p = after ks (next (does k p) p)
+after (k ∷ ks) p = after ks (left (does k p) p)
 
 abbrev fresh : Pipe
 fresh = new 4 (0 ∷ 0 ∷ 0 ∷ 0 ∷ [])

@@ -5,17 +5,17 @@ use mathlib.Core.List.{List, [], _++_}
 use Prim.Native.Nat.{ℕ, _+_, _-_, _≤_, _<_, min}
 use native.Mathlib.Omega.{arith}
 use borrow.Author.Tests.{lt-ltb, ne-eqb, eq-eqb}
-use lib.Dec.{eqb, ltb}
+use lib.Dec.{eqb}
 use lib.IntN.{ℤ, pos}
 use lib.ListN.{length, take, length-append, length-take, length-drop, drop-of-length-le}
 use lib.Seq.{take-all}
-use Rattle.thread.specs.Code.{einval, enomsg, epipe}
+use Rattle.thread.specs.Code.{einval}
 use Rattle.store.specs.Store.{Reply, refuse, accept}
 use Rattle.ring_buf.specs.Ring.{append, leave}
 use Rattle.pipe.specs.Pipe.{Pipe, Verdict, never, later, move, writes, reads, moved, done, holding, toWrite, toRead, write, read}
 use Rattle.pipe.specs.Post.{isOpen, isResetting, Moves, goes, wakes, decided, proper, writeDecision, readDecision}
 use Rattle.pipe.specs.HandOver.{used, flags, Agree, refuses, waits, moves, writeOf, readOf, HandsOver, MakesRoom, NobodyPassed}
-use Rattle.pipe.proofs.Verdicts.{who-waits, from-proper, write-is, read-is}
+use Rattle.pipe.proofs.Verdicts.{Within, write-within, read-within, who-waits, from-proper, write-is, read-is}
 
 flag-open : (o r : Bool) → isOpen (cond o 1 0 + cond r 2 0) ≡ o
 flag-open true true = refl
@@ -35,37 +35,11 @@ flag-few true false = omega arith
 flag-few false true = omega arith
 flag-few false false = omega arith
 
--- no more bytes move than were asked for, nor than there are
-abbrev Within : ℕ → Verdict → Type 0
-Within m (never c) = Unit {0}
-Within m later = Unit {0}
-Within m (move k) = k ≤ m
-
-write-within : (u s : ℕ) (o r : Bool) (n : ℕ) → Within n (writes u s o r n)
-write-within u s o true n = tt
-write-within u s false false n = tt
-write-within u s true false n = go (eqb n 0) (ltb u s)
-  where
-    go : (x y : Bool) → Within n (cond x (never enomsg) (cond y (move (min n (s - u))) later))
-    go true y = tt
-    go false true = omega arith
-    go false false = tt
-
-read-within : (u : ℕ) (o r : Bool) (n : ℕ) → Within n (reads u o r n)
-read-within u o true n = tt
-read-within u o false n = go (eqb n 0) (ltb 0 u) o
-  where
-    go : (x y o : Bool) → Within n (cond x (never enomsg) (cond y (move (min n u)) (cond o later (never epipe))))
-    go true y o = tt
-    go false true o = omega arith
-    go false false true = tt
-    go false false false = tt
-
 -- of any verdict
-agree : (p : Pipe) (m : ℕ) (f : ℕ → ℕ) (q : ℕ → Pipe) → ((k : ℕ) → k ≤ m → f k ≡ used (q k)) → (v : Verdict) → Within m v → Agree p (decided (used p) goes f v) (done q v)
-agree p m f q h (never c) w = refuses c
-agree p m f q h later w = waits
-agree p m f q h (move k) w = subst (λ (u : ℕ). Agree p (accept (record { actual = k; used = u }) goes) (accept (q k) (pos k))) (sym (h k w)) (moves k (q k))
+agree : (p : Pipe) (n m : ℕ) (f : ℕ → ℕ) (q : ℕ → Pipe) → ((k : ℕ) → k ≤ n → f k ≡ used (q k)) → (v : Verdict) → Within n m v → Agree p (decided (used p) goes f v) (done q v)
+agree p n m f q h (never c) w = refuses c
+agree p n m f q h later w = waits
+agree p n m f q h (move k) w = subst (λ (u : ℕ). Agree p (accept (record { actual = k; used = u }) goes) (accept (q k) (pos k))) (sym (h k (w .1 .0))) (moves k (q k))
 
 module _ (p : Pipe) (some : 0 < p .ring .capacity) (under : used p ≤ p .ring .capacity) where
   fits : (w : Bool) (at : ℕ) → proper (used p) (p .ring .capacity) (flags p) w at ≡ cond w (eqb (used p) at) true
@@ -83,13 +57,13 @@ module _ (p : Pipe) (some : 0 < p .ring .capacity) (under : used p ≤ p .ring .
       let q : ℕ → Pipe = λ k. holding (append (take k l) (p .ring)) p in
       let h : (k : ℕ) → k ≤ length l → used p + k ≡ used (q k) = λ k m. sym (length-append (p .ring .held) (take k l) ∙ omega (arith, length-take k l)) in
       subst (λ (d : Reply Moves). Agree p d (write l p)) (sym (write-is (used p) (p .ring .capacity) (flags p) (length l) false (fits false 0) (write-same (length l))))
-      (agree p (length l) (λ k. used p + k) q h (toWrite (length l) p) (write-within (used p) (p .ring .capacity) (p .opened) (p .resetting) (length l)))
+      (agree p (length l) (p .ring .capacity - used p) (λ k. used p + k) q h (toWrite (length l) p) (write-within (used p) (p .ring .capacity) (p .opened) (p .resetting) (length l)))
 
   pub read-agrees : (n : ℕ) → Agree p (readOf n p) (read n p)
   read-agrees n =
       let q : ℕ → Pipe = λ k. holding (leave k (p .ring)) p in
       subst (λ (d : Reply Moves). Agree p d (read n p)) (sym (read-is (used p) (p .ring .capacity) (flags p) n false (fits false (p .ring .capacity)) (read-same n)))
-      (agree p n (λ k. used p - k) q (λ k m. sym (length-drop k (p .ring .held))) (toRead n p) (read-within (used p) (p .opened) (p .resetting) n))
+      (agree p n (used p) (λ k. used p - k) q (λ k m. sym (length-drop k (p .ring .held))) (toRead n p) (read-within (used p) (p .opened) (p .resetting) n))
 
 -- ---- somebody waits
 

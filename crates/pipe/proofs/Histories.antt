@@ -1,47 +1,30 @@
 -- The line of bytes is kept by every call, of any pipe. Assumes nothing.
 use mathlib.Core.Path.{_≡_, refl, sym, ap, subst, _∙_}
-use mathlib.Core.Bool.{Bool, true, false, cond}
+use mathlib.Core.Bool.{Bool, true, false}
 use mathlib.Core.List.{List, [], _++_, append-assoc, append-nil}
 use Prim.Native.Nat.{ℕ, _+_, _-_, _<_, min}
 use native.Mathlib.Omega.{arith}
 use borrow.Author.Tests.{ne-eqb, lt-ltb}
-use lib.Dec.{eqb, ltb}
 use lib.IntN.{ℤ, pos, negsuc}
 use lib.ListN.{length, take, drop, take-append-drop}
 use Rattle.seq.specs.List.{All}
-use Rattle.thread.specs.Code.{ok, ecanceled, enomsg}
+use Rattle.thread.specs.Code.{ok, ecanceled}
 use Rattle.store.specs.Store.{Reply, refuse, accept, answer, reply, After, Did, handed, Started}
 use Rattle.store.proofs.Laws.{replies, handed-is}
 use Rattle.ring_buf.specs.Ring.{append, leave}
 use Rattle.ring_buf.proofs.Answers.{held-is, spare-is}
 use Rattle.ring_buf.specs.Bytes.{may}
-use Rattle.pipe.specs.Pipe.{Pipe, Verdict, never, later, move, writes as writing, moved, done, holding, toWrite, toRead, write, read}
+use Rattle.pipe.specs.Pipe.{Pipe, Verdict, never, later, move, moved, done, holding, toWrite, toRead, write, read}
 use Rattle.pipe.specs.Post.{formed, object, layout, new}
 use Rattle.pipe.specs.History.{Call, writes, reads, resets, closes, clears, does, gives, Event, Runs, stop, call, Account, seen, account, nothing, Promise, unwritten, Closed, Readable, Ends, cancelled, Cancelled}
+use Rattle.pipe.proofs.Verdicts.{Within, write-within}
 use Rattle.pipe.proofs.Headers.{from-formed}
 use Rattle.pipe.proofs.Answers.{take-least}
 
 -- the pipe after a reply
-abbrev left : Reply Pipe → Pipe → Pipe
+abbrev pub left : Reply Pipe → Pipe → Pipe
 left (refuse c) p = p
 left (accept q r) p = q
-
--- a verdict's code is below 0
-abbrev Coded : Verdict → Type 0
-Coded (never (pos c)) = ⊥
-Coded (never (negsuc c)) = Unit {0}
-Coded later = Unit {0}
-Coded (move n) = Unit {0}
-
-write-coded : (u s : ℕ) (o r : Bool) (n : ℕ) → Coded (writing u s o r n)
-write-coded u s o true n = tt
-write-coded u s false false n = tt
-write-coded u s true false n = go (eqb n 0) (ltb u s)
-  where
-    go : (x y : Bool) → Coded (cond x (never enomsg) (cond y (move (min n (s - u))) later))
-    go true y = tt
-    go false true = tt
-    go false false = tt
 
 -- ---- one call
 
@@ -49,7 +32,7 @@ abbrev Lined : Account → Pipe → Type 0
 Lined a p = a .line ≡ a .got ++ p .ring .held
 
 module _ (a : Account) (p : Pipe) (e : Lined a p) where
-  wrote : (l : List ℕ) (v : Verdict) → Coded v → let y = done (λ k. holding (append (take k l) (p .ring)) p) v in Lined (seen (writes l) (answer y) [] a) (left y p)
+  wrote : (l : List ℕ) (v : Verdict) → Within (length l) (p .ring .capacity - length (p .ring .held)) v → let y = done (λ k. holding (append (take k l) (p .ring)) p) v in Lined (seen (writes l) (answer y) [] a) (left y p)
   wrote l (never (pos c)) h = absurd h
   wrote l (never (negsuc c)) h = append-nil (a .line) ∙ e
   wrote l later h = append-nil (a .line) ∙ e
@@ -61,7 +44,7 @@ module _ (a : Account) (p : Pipe) (e : Lined a p) where
   took n (move k) = e ∙ ap (λ (x : List ℕ). a .got ++ x) (sym (take-append-drop k (p .ring .held))) ∙ sym (append-assoc (a .got) (take k (p .ring .held)) (drop k (p .ring .held)))
 
   lined : (k : Call) → Lined (seen k (answer (does k p)) (gives k p) a) (left (does k p) p)
-  lined (writes l) = wrote l (toWrite (length l) p) (write-coded (length (p .ring .held)) (p .ring .capacity) (p .opened) (p .resetting) (length l))
+  lined (writes l) = wrote l (toWrite (length l) p) (write-within (length (p .ring .held)) (p .ring .capacity) (p .opened) (p .resetting) (length l))
   lined (reads n) = took n (toRead n p)
   lined resets = sym (append-nil (a .got))
   lined closes = e
@@ -73,7 +56,7 @@ spared g p f h (never c) = refl
 spared g p f h later = refl
 spared g p f h (move k) = h k
 
-sized : (k : Call) (p : Pipe) → left (does k p) p .ring .capacity ≡ p .ring .capacity
+pub sized : (k : Call) (p : Pipe) → left (does k p) p .ring .capacity ≡ p .ring .capacity
 sized (writes l) p = spared (λ q. q .ring .capacity) p (λ k. holding (append (take k l) (p .ring)) p) (λ k. refl) (toWrite (length l) p)
 sized (reads n) p = spared (λ q. q .ring .capacity) p (λ k. holding (leave k (p .ring)) p) (λ k. refl) (toRead n p)
 sized resets p = refl
@@ -140,7 +123,7 @@ still resets p e = e
 still closes p e = refl
 still clears p e = e
 
-nothing-sent : (k : Call) (p : Pipe) → p .opened ≡ false → unwritten k (answer (does k p))
+pub nothing-sent : (k : Call) (p : Pipe) → p .opened ≡ false → unwritten k (answer (does k p))
 nothing-sent (writes l) p e = go (p .resetting) refl
   where
     go : (t : Bool) → p .resetting ≡ t → unwritten (writes l) (answer (write l p))

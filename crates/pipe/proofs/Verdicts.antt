@@ -3,9 +3,9 @@ use mathlib.Core.Path.{_≡_, refl, sym, ap, _∙_}
 use mathlib.Core.Bool.{Bool, true, false, cond}
 use Prim.Native.Nat.{ℕ, _+_, _-_, _≤_, _<_, min}
 use native.Mathlib.Omega.{arith}
-use borrow.Author.Tests.{lt-ltb, le-ltb, lt-leb, le-leb, leb-true, ltb-true, eq-eqb, ne-eqb, eqb-true}
+use borrow.Author.Tests.{lt-ltb, le-ltb, lt-leb, le-leb, leb-true, ltb-true, eq-eqb, ne-eqb, eqb-true, eqb-false}
 use lib.Dec.{eqb, ltb, leb}
-use lib.IntN.{ℤ}
+use lib.IntN.{ℤ, pos, negsuc}
 use Rattle.thread.specs.Code.{einval, epipe, enomsg, ecanceled}
 use Rattle.store.specs.Store.{Reply, refuse, accept}
 use Rattle.store.proofs.Laws.{both-true}
@@ -18,6 +18,33 @@ resetting-on f h k = by-lt f 3 (λ l. rw (eq-eqb f 2 (omega arith))) (λ l. rw (
 
 pub resetting-off : (f : ℕ) → f < 2 → isResetting f ≡ false
 resetting-off f h = rw (ne-eqb f 2 (λ e. omega arith), ne-eqb f 3 (λ e. omega arith))
+
+-- a refusal is below 0; if bytes move, some do, and no more than n and than m
+abbrev pub Within : ℕ → ℕ → Verdict → Type 0
+Within n m (never (pos c)) = ⊥
+Within n m (never (negsuc c)) = Unit {0}
+Within n m later = Unit {0}
+Within n m (move k) = (0 < k) × ((k ≤ n) × (k ≤ m))
+
+pub write-within : (u s : ℕ) (o r : Bool) (n : ℕ) → Within n (s - u) (writes u s o r n)
+write-within u s o true n = tt
+write-within u s false false n = tt
+write-within u s true false n = go (eqb n 0) (ltb u s) refl refl
+  where
+    go : (x y : Bool) → eqb n 0 ≡ x → ltb u s ≡ y → Within n (s - u) (cond x (never enomsg) (cond y (move (min n (s - u))) later))
+    go true y e f = tt
+    go false true e f = let a = eqb-false n 0 e in let b = ltb-true u s f in (omega arith, (omega arith, omega arith))
+    go false false e f = tt
+
+pub read-within : (u : ℕ) (o r : Bool) (n : ℕ) → Within n u (reads u o r n)
+read-within u o true n = tt
+read-within u o false n = go (eqb n 0) (ltb 0 u) o refl refl
+  where
+    go : (x y o : Bool) → eqb n 0 ≡ x → ltb 0 u ≡ y → Within n u (cond x (never enomsg) (cond y (move (min n u)) (cond o later (never epipe))))
+    go true y o e f = tt
+    go false true o e f = let a = eqb-false n 0 e in let b = ltb-true 0 u f in (omega arith, (omega arith, omega arith))
+    go false false true e f = tt
+    go false false false e f = tt
 
 module _ (used size f n : ℕ) where
   pub write-resetting : 2 ≤ f → f ≤ 3 → writes used size (isOpen f) (isResetting f) n ≡ never ecanceled

@@ -2,3 +2,4 @@ pub mod Pipe
 pub mod Post
 pub mod History
 pub mod HandOver
+pub mod Upstream
