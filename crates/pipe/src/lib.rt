@@ -22,12 +22,12 @@ pub const FLAG_RESET: u32 = 2;
 
 const BOTH: u32 = 3;
 
-// What a caller is to do: Gale's WriteDecision and ReadDecision.
-pub const GOES: i32 = 0;
+// What the caller of a write or a read is to do, beside OK: Gale's WriteDecision and ReadDecision.
+pub const WAKE_READER: i32 = 1;
 
-pub const WAKES: i32 = 1;
+pub const WAKE_WRITER: i32 = 1;
 
-pub const PENDS: i32 = 2;
+pub const PEND: i32 = 2;
 
 fn least(a: u32, b: u32) -> u32
     ensures { λ r. ⌜ r ≡ min a b ⌝ }
@@ -282,7 +282,7 @@ fn proper(used: u32, size: u32, flags: u32, waits: bool, at: u32) -> bool
     true
 }
 
-// GOES; WAKES: the bytes go to the reader that waits; PENDS: the caller is to wait. Refusals as write, and EINVAL: a reader that waits while there are bytes.
+// OK; WAKE_READER: the bytes go to the reader that waits; PEND: the caller is to wait. Refusals as write, and EINVAL: a reader that waits while there are bytes.
 pub fn write_decide(
     used: u32,
     size: u32,
@@ -309,19 +309,19 @@ pub fn write_decide(
     if used == size {
         *actual_bytes = 0;
         *new_used = used;
-        return PENDS;
+        return PEND;
     }
     let n = least(request_len, size - used);
     *actual_bytes = n;
     if has_reader {
         *new_used = 0;
-        return WAKES;
+        return WAKE_READER;
     }
     *new_used = used + n;
-    GOES
+    OK
 }
 
-// GOES; WAKES: then the writer that waits is to write; PENDS: the caller is to wait. Refusals as read, and EINVAL: a writer that waits while there is room.
+// OK; WAKE_WRITER: then the writer that waits is to write; PEND: the caller is to wait. Refusals as read, and EINVAL: a writer that waits while there is room.
 pub fn read_decide(
     used: u32,
     size: u32,
@@ -348,13 +348,13 @@ pub fn read_decide(
         }
         *actual_bytes = 0;
         *new_used = used;
-        return PENDS;
+        return PEND;
     }
     let n = least(request_len, used);
     *actual_bytes = n;
     *new_used = used - n;
     if has_writer {
-        return WAKES;
+        return WAKE_WRITER;
     }
-    GOES
+    OK
 }
