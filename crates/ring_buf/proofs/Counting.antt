@@ -58,10 +58,10 @@ module _ (p g : ℕ) (r : Ring ℕ) (k : Counted p g r) where
       wrap-mod (r .start + length (r .held)) (r .capacity) (omega (arith, k .start, k .whole, b)) ∙ ap (λ (x : ℕ). (x + length (r .held)) % r .capacity) (k .start)
       ∙ mod-add-mod g (r .capacity) (length (r .held)) ∙ ap (λ (x : ℕ). x % r .capacity) (sym (k .size))
 
-  claims : (n m : ℕ) → Exact p (r .capacity) → m ≡ min n (r .capacity - tail r) → claimed (low p) 0 (r .capacity) n ≡ m
-  claims n m e f =
+  claims : (x a n m : ℕ) → a ≡ x % r .capacity → Exact x (r .capacity) → m ≡ min n (r .capacity - a) → claimed (low x) 0 (r .capacity) n ≡ m
+  claims x a n m q e f =
       let s : r .capacity ≡ 0 → ⊥ = λ z. omega (arith, k .some) in
-      sym (claimed-is (low p) 0 (r .capacity) s n (tail r) m (tail-mod ∙ sym (place p e)) f)
+      sym (claimed-is (low x) 0 (r .capacity) s n a m (q ∙ sym (place x e)) f)
 
   pub agrees : Agrees p g r
   agrees =
@@ -72,6 +72,8 @@ module _ (p g : ℕ) (r : Ring ℕ) (k : Counted p g r) where
         room-is = ap (λ (x : ℕ). r .capacity - x) d ∙ omega (arith, k .whole);
         tail-is = λ e. place p e ∙ sym tail-mod;
         start-is = λ e. place g e ∙ sym (k .start);
-        claim-is = λ n e f h. claims n (min n (length (r .spare))) e (omega arith);
-        claim-cut = λ n e f. claims n (r .capacity - tail r) e (omega arith);
+        claim-is = λ n e f h. claims p (tail r) n (min n (length (r .spare))) tail-mod e (omega arith);
+        claim-cut = λ n e f. claims p (tail r) n (r .capacity - tail r) tail-mod e (omega arith);
+        got-is = λ n e f h. claims g (r .start) n (min n (length (r .held))) (k .start) e (omega arith);
+        got-cut = λ n e f. claims g (r .start) n (r .capacity - r .start) (k .start) e (omega arith);
       }

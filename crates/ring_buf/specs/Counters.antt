@@ -54,7 +54,10 @@ pub record Agrees (p g : ℕ) (r : Ring ℕ) : Type 0 where
   -- the places agree, if the counters are exact
   pub tail-is : Exact p (r .capacity) → offset (low p) 0 (r .capacity) ≡ tail r
   pub start-is : Exact g (r .capacity) → offset (low g) 0 (r .capacity) ≡ r .start
-  -- a claim is what the ring would take, if so much is free and the piece does not reach over the end
+  -- a claim for bytes to be put is what the ring would take, if so much is free and the piece does not reach over the end
   pub claim-is : (n : ℕ) → Exact p (r .capacity) → n ≤ length (r .spare) → tail r + n ≤ r .capacity → claimed (low p) 0 (r .capacity) n ≡ min n (length (r .spare))
-  -- else it is less: what stands before the end
+  -- else it is what stands before the end
   pub claim-cut : (n : ℕ) → Exact p (r .capacity) → r .capacity ≤ tail r + n → claimed (low p) 0 (r .capacity) n ≡ r .capacity - tail r
+  -- the same of a claim for bytes to be got
+  pub got-is : (n : ℕ) → Exact g (r .capacity) → n ≤ length (r .held) → r .start + n ≤ r .capacity → claimed (low g) 0 (r .capacity) n ≡ min n (length (r .held))
+  pub got-cut : (n : ℕ) → Exact g (r .capacity) → r .capacity ≤ r .start + n → claimed (low g) 0 (r .capacity) n ≡ r .capacity - r .start
