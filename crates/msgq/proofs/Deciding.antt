@@ -28,7 +28,7 @@ module _ {y : Reply Numbers} {i u : ℕ} {r : ℤ} {i' u' : ℕ} (d : Decided y 
     (d .idx ∙ ap (λ (x : Reply Numbers). settled (λ (v : Numbers). v .idx) x i) e, d .used ∙ ap (λ (x : Reply Numbers). settled (λ (v : Numbers). v .used) x u) e),
   )
 
-  kept : {c : ℤ} → y ≡ refuse c → (r ≡ c) × ((i' ≡ i) × (u' ≡ u))
+  pub kept : {c : ℤ} → y ≡ refuse c → (r ≡ c) × ((i' ≡ i) × (u' ≡ u))
   kept e = (
     d .code ∙ ap answer e,
     (d .idx ∙ ap (λ (x : Reply Numbers). settled (λ (v : Numbers). v .idx) x i) e, d .used ∙ ap (λ (x : Reply Numbers). settled (λ (v : Numbers). v .used) x u) e),

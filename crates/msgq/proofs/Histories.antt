@@ -13,10 +13,11 @@ use Rattle.store.specs.Store.{Reply, refuse, accept, answer, After, Did, handed
 use Rattle.store.proofs.Laws.{replies, answers, handed-is}
 use Rattle.ring_buf.proofs.Rings.{wrap-below, length-turn}
 use Rattle.msgq.specs.Messages.{slots}
-use Rattle.msgq.specs.Msgq.{Msgq}
+use Rattle.msgq.specs.Msgq.{Msgq, max}
 use Rattle.msgq.specs.Post.{messages, new, may}
 use Rattle.msgq.specs.History.{Call, put, putFront, get, purge, does, out, left, Log, nothing, note, State, next, run, Good, Promise, simple, Fifo, Made, none-made, made, at, Kept}
 use Rattle.msgq.proofs.Slots.{length-slots}
+use Rattle.msgq.proofs.Headers.{from-sound}
 use Rattle.msgq.proofs.Steps.{step}
 
 pub promised : (c z : ℕ) (s : State) (ks : List Call) → Promise c z s → Promise c z (run s ks)
@@ -74,3 +75,10 @@ pub from-init : (c z : ℕ) (h b h₀ b₀ h' b' : List ℕ) (l' : Log) (ks : Li
     → at h' b' l' ≡ run (record { queue = new z c b; log = nothing }) ks
 from-init c z h b h₀ b₀ h' b' l' ks s m =
     kept (s .made refl .formed) m .is ∙ ap (λ (q : Msgq). run (record { queue = q; log = nothing }) ks) (s .made refl .object)
+
+pub in-memory-always : (c z : ℕ) (h b h₀ b₀ h' b' : List ℕ) (l' : Log) (ks : List Call) → Started messages (may z c b) (new z c b) h b ok h₀ b₀ → Made h₀ b₀ nothing ks h' b' l'
+    → Promise c z (at h' b' l')
+in-memory-always c z h b h₀ b₀ h' b' l' ks s m =
+    let x = s .made refl in
+    subst (Promise c z) (sym (from-init c z h b h₀ b₀ h' b' l' ks s m))
+    (always c z b ks (omega (arith, from-sound h₀ b₀ (x .formed) .within .idx, ap max (x .object))))

@@ -18,3 +18,4 @@ pub mod Lemmas
 pub mod Memory
 pub mod Upstream
 pub mod Others
+pub mod Refusals
