@@ -9,7 +9,7 @@ use Rattle.store.specs.Store.{Reply, accept, refuse, answer, settled}
 use Rattle.thread.specs.Code.{ok}
 use Rattle.ring_buf.specs.Ring.{wrap}
 use Rattle.ring_buf.proofs.Rings.{wrap-low, wrap-high, wrap-below}
-use Rattle.msgq.specs.Msgq.{Numbers, now}
+use Rattle.msgq.specs.Msgq.{Numbers, counts}
 use Rattle.msgq.specs.Post.{sane, putDecision, getDecision, putFrontDecision, peekDecision, Decided, Found}
 use Rattle.msgq.specs.Upstream.{nextIdx, prevIdx, PutDecide, GetDecide, PutFrontDecide, PeekAtDecide}
 use Rattle.msgq.proofs.Headers.{is-within}
@@ -22,7 +22,7 @@ by-both false f g = g refl
 
 -- a decision that is told
 module _ {y : Reply Numbers} {i u : ℕ} {r : ℤ} {i' u' : ℕ} (d : Decided y i u r i' u') where
-  told : {a n : ℕ} {c : ℤ} → y ≡ accept (now a n) c → (r ≡ c) × ((i' ≡ a) × (u' ≡ n))
+  told : {a n : ℕ} {c : ℤ} → y ≡ accept (counts a n) c → (r ≡ c) × ((i' ≡ a) × (u' ≡ n))
   told e = (
     d .code ∙ ap answer e,
     (d .idx ∙ ap (λ (x : Reply Numbers). settled (λ (v : Numbers). v .idx) x i) e, d .used ∙ ap (λ (x : Reply Numbers). settled (λ (v : Numbers). v .used) x u) e),

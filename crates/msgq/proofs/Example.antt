@@ -8,7 +8,7 @@ use Rattle.thread.specs.Code.{ok, enomsg, einval}
 use Rattle.store.specs.Store.{accept, refuse, answer}
 use Rattle.ring_buf.specs.Ring.{wrap, turn}
 use Rattle.msgq.specs.Messages.{slots}
-use Rattle.msgq.specs.Msgq.{Msgq, now, wakesReader, wakesWriter, pends, max, used, readIdx, writeIdx}
+use Rattle.msgq.specs.Msgq.{Msgq, counts, wakesReader, wakesWriter, pends, max, used, readIdx, writeIdx}
 use Rattle.msgq.specs.Post.{sound, held, new, may, putDecision, getDecision, putFrontDecision, peekDecision}
 use Rattle.msgq.specs.History.{Call, put, putFront, get, purge, does, nothing, State, run}
 use Rattle.msgq.specs.HandOver.{Waited, Event, putting, getting, stored, ends}
@@ -78,9 +78,9 @@ unfolding slots turn wrap
 waited = (refl, refl, refl, refl, refl, refl)
 
 -- the decisions behind it
-pub decided : (putDecision 1 0 2 true false ≡ accept (now 1 0) wakesReader) × (putDecision 1 1 2 false true ≡ accept (now 0 2) ok) × (putDecision 0 2 2 false true ≡ refuse enomsg)
-    × (putDecision 0 2 2 false false ≡ accept (now 0 2) pends) × (getDecision 1 2 2 true false ≡ accept (now 0 1) wakesWriter)
-    × (getDecision 1 0 2 false false ≡ accept (now 1 0) pends) × (putFrontDecision 0 1 2 ≡ accept (now 1 2) ok) × (peekDecision 1 2 2 1 ≡ accept 0 ok)
+pub decided : (putDecision 1 0 2 true false ≡ accept (counts 1 0) wakesReader) × (putDecision 1 1 2 false true ≡ accept (counts 0 2) ok) × (putDecision 0 2 2 false true ≡ refuse enomsg)
+    × (putDecision 0 2 2 false false ≡ accept (counts 0 2) pends) × (getDecision 1 2 2 true false ≡ accept (counts 0 1) wakesWriter)
+    × (getDecision 1 0 2 false false ≡ accept (counts 1 0) pends) × (putFrontDecision 0 1 2 ≡ accept (counts 1 2) ok) × (peekDecision 1 2 2 1 ≡ accept 0 ok)
 unfolding wrap
 decided = (refl, refl, refl, refl, refl, refl, refl, refl)
 

@@ -10,7 +10,7 @@ use lib.Seq.{append-snoc, drop-append-seam}
 use Rattle.seq.specs.List.{All}
 use Rattle.store.specs.Store.{accept}
 use Rattle.ring_buf.specs.Ring.{wrap, append, leave}
-use Rattle.msgq.specs.Msgq.{Msgq, now, having, max, used, readIdx, writeIdx, wakesWriter}
+use Rattle.msgq.specs.Msgq.{Msgq, counts, having, max, used, readIdx, writeIdx, wakesWriter}
 use Rattle.msgq.specs.Post.{new}
 use Rattle.msgq.specs.History.{Good}
 use Rattle.msgq.specs.HandOver.{Waited, Event, putting, getting, stored, read, happens, ends, Sized, Fair, HandsOver, Refills, Refused, OnlyEmpty}
@@ -56,7 +56,7 @@ module _ (c z : ℕ) (q : Msgq) (g : Good c z q) where
       let y : stored w (read q) ≡ having (append (w ∷ []) (leave 1 (q .ring))) q = ap (stored w) x ∙ stores c z (having (leave 1 (q .ring)) q) l w e d in
       record {
         decided = λ k. get-wakes (readIdx q) (used q) (max q) true k (get-sane c z q g true (λ v. n)) (wrap (readIdx q + 1) (max q)) (λ v. absurd (omega arith)) refl refl
-            ∙ (λ i. accept (now (readIdx (sym x i)) ((sym (length-drop 1 (q .ring .held)) ∙ ap used (sym x)) i)) wakesWriter);
+            ∙ (λ i. accept (counts (readIdx (sym x i)) ((sym (length-drop 1 (q .ring .held)) ∙ ap used (sym x)) i)) wakesWriter);
         behind = ap (λ (t : Msgq). t .ring .held) y;
         full = ap used y ∙ length-append (drop 1 (q .ring .held)) (w ∷ []) ∙ omega (arith, length-drop 1 (q .ring .held), g .max);
       }

@@ -13,7 +13,7 @@ use Rattle.thread.specs.Code.{ok, enomsg}
 use Rattle.store.specs.Store.{Reply, refuse, accept, answer, carry}
 use Rattle.ring_buf.specs.Ring.{Ring, wrap, append, lead, leave}
 use Rattle.ring_buf.proofs.Rings.{wrap-below}
-use Rattle.msgq.specs.Msgq.{Msgq, Numbers, now, having, max, used, readIdx, writeIdx, given}
+use Rattle.msgq.specs.Msgq.{Msgq, Numbers, counts, having, max, used, readIdx, writeIdx, given}
 use Rattle.msgq.specs.History.{Call, put, putFront, get, purge, does, out, left, noted, note, State, next, Good, Promise}
 use Rattle.msgq.proofs.Lines.{line-put, line-front, line-get, line-purge}
 
@@ -83,12 +83,12 @@ module _ (c z : ℕ) (s : State) (p : Promise c z s) where
 
   pub step : (k : Call) → Promise c z (next s k)
   step (put m) =
-      tested (put m) (eqb (length m) (Q .size)) (ltb (used Q) (max Q)) (having (append (m ∷ []) (Q .ring)) Q) (now (wrap (writeIdx Q + 1) (max Q)) (used Q + 1)) refl
+      tested (put m) (eqb (length m) (Q .size)) (ltb (used Q) (max Q)) (having (append (m ∷ []) (Q .ring)) Q) (counts (wrap (writeIdx Q + 1) (max Q)) (used Q + 1)) refl
       (λ t u. let f = ltb-true (used Q) (max Q) u in
       let e = eqb-true (length m) (Q .size) t in
       record { good = good-put c z Q (p .good) m (omega (arith, p .good .max)) (e ∙ p .good .size); line = line-put (s .log .got) (Q .ring .held) (s .log .line) m (p .line) })
   step (putFront m) =
-      tested (putFront m) (eqb (length m) (Q .size)) (ltb (used Q) (max Q)) (having (lead m (Q .ring)) Q) (now (wrap (readIdx Q + (max Q - 1)) (max Q)) (used Q + 1)) refl
+      tested (putFront m) (eqb (length m) (Q .size)) (ltb (used Q) (max Q)) (having (lead m (Q .ring)) Q) (counts (wrap (readIdx Q + (max Q - 1)) (max Q)) (used Q + 1)) refl
       (λ t u. let f = ltb-true (used Q) (max Q) u in
       let e = eqb-true (length m) (Q .size) t in
       record {
@@ -96,7 +96,7 @@ module _ (c z : ℕ) (s : State) (p : Promise c z s) where
         line = line-front (s .log .got) (Q .ring .held) (s .log .line) m (p .line);
       })
   step (get n) =
-      tested (get n) (eqb n (Q .size)) (ltb 0 (used Q)) (having (leave 1 (Q .ring)) Q) (now (wrap (readIdx Q + 1) (max Q)) (used Q - 1)) refl
+      tested (get n) (eqb n (Q .size)) (ltb 0 (used Q)) (having (leave 1 (Q .ring)) Q) (counts (wrap (readIdx Q + 1) (max Q)) (used Q - 1)) refl
       (λ t u. let f = ltb-true 0 (used Q) u in
       record {
         good = good-leave c z Q (p .good) 1 f;

@@ -10,7 +10,7 @@ use lib.ListN.{length, drop, getD}
 use Rattle.seq.specs.List.{any, All}
 use Rattle.thread.specs.Code.{einval}
 use Rattle.store.specs.Store.{Reply, accept, refuse, answer}
-use Rattle.msgq.specs.Msgq.{Msgq, Numbers, now, wakesReader, wakesWriter, max, used, readIdx, writeIdx, put, get}
+use Rattle.msgq.specs.Msgq.{Msgq, Numbers, counts, wakesReader, wakesWriter, max, used, readIdx, writeIdx, put, get}
 use Rattle.msgq.specs.Post.{putDecision, getDecision}
 use Rattle.msgq.specs.History.{left, Good}
 
@@ -18,7 +18,7 @@ pub record Waited : Type 0 where
   pub queue : Msgq
   -- how many readers wait
   pub readers : ℕ
-  -- the messages of the writers that wait, the first to be woken first
+  -- the messages of the writers that wait, the first to be woken first: all are of one priority
   pub writers : List (List ℕ)
   -- all messages that were put and not refused, and all that came out, the first first
   pub sent : List (List ℕ)
@@ -51,7 +51,7 @@ abbrev pub done : Event → ℕ → Waited → Waited
 done (putting m k) zero s = record { queue = stored m (s .queue); readers = s .readers; writers = s .writers; sent = s .sent ++ m ∷ []; got = s .got }
 -- hand it to a reader: the queue is not touched
 done (putting m k) (suc zero) s = record { queue = s .queue; readers = s .readers - 1; writers = s .writers; sent = s .sent ++ m ∷ []; got = s .got ++ m ∷ [] }
--- wait
+-- wait, behind the writers that wait already
 done (putting m k) (suc (suc c)) s = record { queue = s .queue; readers = s .readers; writers = s .writers ++ m ∷ []; sent = s .sent ++ m ∷ []; got = s .got }
 -- read the first message
 done (getting k) zero s =
@@ -99,13 +99,13 @@ pub record Fair (c z : ℕ) (s : Waited) : Type 0 where
 
 -- of an empty queue: the message m goes to a reader, and no number moves; m put, and then got by the reader, leaves it empty as well
 pub record HandsOver (m : List ℕ) (q : Msgq) : Type 0 where
-  pub decided : (k : Bool) → putDecision (writeIdx q) (used q) (max q) true k ≡ accept (now (writeIdx q) (used q)) wakesReader
+  pub decided : (k : Bool) → putDecision (writeIdx q) (used q) (max q) true k ≡ accept (counts (writeIdx q) (used q)) wakesReader
   pub same : read (stored m q) .ring .held ≡ q .ring .held
   pub gets-it : getD (stored m q .ring .held) 0 [] ≡ m
 
 -- of a full queue, where a writer waits with w: the numbers are those of the get alone; then w is put, and it is full again
 pub record Refills (w : List ℕ) (q : Msgq) : Type 0 where
-  pub decided : (k : Bool) → getDecision (readIdx q) (used q) (max q) true k ≡ accept (now (readIdx (read q)) (used (read q))) wakesWriter
+  pub decided : (k : Bool) → getDecision (readIdx q) (used q) (max q) true k ≡ accept (counts (readIdx (read q)) (used (read q))) wakesWriter
   pub behind : stored w (read q) .ring .held ≡ drop 1 (q .ring .held) ++ w ∷ []
   pub full : used (stored w (read q)) ≡ max q
 

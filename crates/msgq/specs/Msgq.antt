@@ -39,8 +39,8 @@ pub record Numbers : Type 0 where
   pub idx : ℕ
   pub used : ℕ
 
-abbrev pub now : ℕ → ℕ → Numbers
-now i n = record { idx = i; used = n }
+abbrev pub counts : ℕ → ℕ → Numbers
+counts i n = record { idx = i; used = n }
 
 -- a put: the message is stored; it goes to the first reader that waits; the caller is to wait
 abbrev pub stored : ℤ
@@ -63,18 +63,18 @@ pends = pos 2
 abbrev pub puts : ℕ → ℕ → ℕ → (reader noWait : Bool) → Reply Numbers
 puts w n c reader noWait =
     cond (ltb n c)
-    (cond reader (accept (now w n) wakesReader) (accept (now (wrap (w + 1) c) (n + 1)) stored))
-    (cond noWait (refuse enomsg) (accept (now w n) pends))
+    (cond reader (accept (counts w n) wakesReader) (accept (counts (wrap (w + 1) c) (n + 1)) stored))
+    (cond noWait (refuse enomsg) (accept (counts w n) pends))
 
 -- with n messages of c, the first in the slot t
 abbrev pub gets : ℕ → ℕ → ℕ → (writer noWait : Bool) → Reply Numbers
 gets t n c writer noWait =
     cond (ltb 0 n)
-    (accept (now (wrap (t + 1) c) (n - 1)) (cond writer wakesWriter isRead))
-    (cond noWait (refuse enomsg) (accept (now t n) pends))
+    (accept (counts (wrap (t + 1) c) (n - 1)) (cond writer wakesWriter isRead))
+    (cond noWait (refuse enomsg) (accept (counts t n) pends))
 
 abbrev pub leads : ℕ → ℕ → ℕ → Reply Numbers
-leads t n c = cond (ltb n c) (accept (now (wrap (t + (c - 1)) c) (n + 1)) ok) (refuse enomsg)
+leads t n c = cond (ltb n c) (accept (counts (wrap (t + (c - 1)) c) (n + 1)) ok) (refuse enomsg)
 
 -- the slot of the message i
 abbrev pub peeks : ℕ → ℕ → ℕ → ℕ → Reply ℕ
