@@ -9,8 +9,7 @@ use lib.Dec.{ltb, leb}
 use lib.IntN.{ℤ, negsuc}
 use lib.ListN.{length, take, drop, length-append, length-take, length-drop}
 use lib.Seq.{take-at, length-take-le}
-use Rattle.store.specs.Store.{answer, Filled}
-use Rattle.store.specs.History.{left}
+use Rattle.store.specs.Store.{answer, Filled, left}
 use Rattle.store.proofs.Laws.{both-true}
 use Rattle.ring_buf.specs.Ring.{Ring, append, leave, clear}
 use Rattle.ring_buf.specs.Bytes.{new, may, put, get, getMany, peek, gotten}

@@ -5,8 +5,8 @@ use mathlib.Core.List.{List, [], _∷_, _++_}
 use Prim.Native.Nat.{ℕ, _+_, _≤_, _<_}
 use lib.IntN.{ℤ, pos, negsuc}
 use lib.ListN.{length, take, drop}
-use Rattle.store.specs.Store.{Reply, answer}
-use Rattle.store.specs.History.{Step, left}
+use Rattle.store.specs.Store.{Reply, answer, left}
+use Rattle.store.specs.History.{Step}
 use Rattle.ring_buf.specs.Ring.{Ring}
 use Rattle.ring_buf.specs.Bytes.{put, get, putMany, getMany, peek, reset, gotten, seen}
 use Rattle.ring_buf.specs.Counters.{Counted, Agrees}

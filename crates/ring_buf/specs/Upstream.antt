@@ -9,8 +9,7 @@ use lib.IntN.{ℤ, pos}
 use lib.ListN.{length, getD, set}
 use Rattle.thread.specs.Code.{ok, eagain, einval}
 use Rattle.thread.specs.Upstream.{Tells}
-use Rattle.store.specs.Store.{refuse}
-use Rattle.store.specs.History.{left}
+use Rattle.store.specs.Store.{refuse, left}
 use Rattle.ring_buf.specs.Ring.{Ring, wrap}
 use Rattle.ring_buf.specs.Bytes.{put, get, reset, gotten, new, may, sizeOf, spaceOf, capacityOf}
 use Rattle.ring_buf.specs.History.{Call, does}

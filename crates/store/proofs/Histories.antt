@@ -8,8 +8,8 @@ use lib.Dec.{leb}
 use lib.IntN.{ℤ}
 use lib.ListN.{length}
 use Rattle.thread.specs.Code.{ok, einval}
-use Rattle.store.specs.Store.{Reply, refuse, accept, answer, Place, After, Did, looks, Filled, first, Started}
-use Rattle.store.specs.History.{Step, left, Ran, fresh, ran, Made, begun, made}
+use Rattle.store.specs.Store.{Reply, refuse, accept, answer, left, Place, After, Did, looks, Filled, first, Started}
+use Rattle.store.specs.History.{Step, Ran, fresh, ran, Made, begun, made, Event, Run, start, then}
 use Rattle.store.proofs.Laws.{replies, answers, did-bad, looks-is, looks-bad, handed-is}
 
 module _ {S : Type 0} (P : Place S) where
@@ -19,9 +19,9 @@ module _ {S : Type 0} (P : Place S) where
   leaves (accept s r) h b h' b' e a = (a .formed, a .object)
 
   -- one call
-  pub done : (f : S → Reply S) (h b h' b' : List ℕ) {r : ℤ} → P .formed h b ≡ true → Did P f h b r h' b'
+  pub done : (f : S → Reply S) (h b : List ℕ) {r : ℤ} {h' b' : List ℕ} → P .formed h b ≡ true → Did P f h b r h' b'
       → (P .formed h' b' ≡ true) × (P .object h' b' ≡ left (f (P .object h b)) (P .object h b))
-  done f h b h' b' e d = leaves (f (P .object h b)) h b h' b' e (subst (λ (y : Reply S). After P y h b h' b') (replies P f h b e) (d .after))
+  done f h b {h' = h'} {b' = b'} e d = leaves (f (P .object h b)) h b h' b' e (subst (λ (y : Reply S). After P y h b h' b') (replies P f h b e) (d .after))
 
   -- a call that only reads
   pub did-look : (f : S → Reply S) (h b : List ℕ) {r : ℤ} → ((s : S) → left (f s) s ≡ s) → r ≡ looks P (λ s. answer (f s)) h b → Did P f h b r h b
@@ -51,7 +51,7 @@ module _ {S K : Type 0} (P : Place S) (does : K → S → Reply S) (gives : K �
   runs e begun = (e, fresh)
   runs {h₀} {b₀} e (made {ss} {k} {r} {h} {b} {h'} {b'} o o' m d f) =
       let a = runs e m in
-      let t = done P (does k) h b h' b' (a .0) d in
+      let t = done P (does k) h b (a .0) d in
       let g : Filled (gives k (P .object h b)) o o' = rw (handed-is P h b (gives k) (a .0)) at f in (
         t .0,
         subst (λ (s : S). Ran does gives (P .object h₀ b₀) (record { call = k; answer = r; out = o' } ∷ ss) s) (sym (t .1))
@@ -74,3 +74,22 @@ allowed {P = P} {m} {h = h} x = go (leb (P .words) (length h)) m (x .code)
     go true true e = refl
     go true false e = absurd (let y : _≡_ {A = ℕ} 0 1 = cc in omega arith)
     go false m e = absurd (let y : _≡_ {A = ℕ} 0 1 = cc in omega arith)
+
+-- what each call keeps holds after any of them
+module _ {S K : Type 0} (P : Place S) (does : K → S → Reply S) (I : List (Event K) → S → Type 0)
+    (keeps : (k : K) (es : List (Event K)) (s : S) → I es s → I (record { call = k; answer = answer (does k s) } ∷ es) (left (does k s) s)) where
+  pub throughout : {h₀ b₀ : List ℕ} → P .formed h₀ b₀ ≡ true → I [] (P .object h₀ b₀) → {es : List (Event K)} {h b : List ℕ} → Run P does h₀ b₀ es h b
+      → (P .formed h b ≡ true) × I es (P .object h b)
+  throughout e i start = (e, i)
+  throughout e i (then {es} {h} {b} {h'} {b'} k r m d) =
+      let p = throughout e i m in
+      let q = done P (does k) h b (p .0) d in
+      let a = answers P (does k) h b d (p .0) in
+      (q .0, subst (λ (s : S). I (record { call = k; answer = r } ∷ es) s) (sym (q .1)) (subst (λ (z : ℤ). I (record { call = k; answer = z } ∷ es) (left (does k (P .object h b)) (P .object h b))) (sym a) (keeps k es (P .object h b) (p .1))))
+
+-- a header of three words
+pub three : (P : List ℕ → Type 0) → ((x y z : ℕ) (t : List ℕ) → 3 ≤ length (x ∷ y ∷ z ∷ t) → P (x ∷ y ∷ z ∷ t)) → (h : List ℕ) → 3 ≤ length h → P h
+three P f [] k = absurd (omega arith)
+three P f (x ∷ []) k = absurd (omega arith)
+three P f (x ∷ y ∷ []) k = absurd (omega arith)
+three P f (x ∷ y ∷ z ∷ t) k = f x y z t k

@@ -8,14 +8,9 @@ use borrow.Author.Tests.{lt-leb, le-leb}
 use lib.IntN.{ℤ, pos, negsuc}
 use lib.ListN.{length}
 use Rattle.seq.specs.List.{any}
-use Rattle.seq.proofs.Order.{clash}
+pub use Rattle.seq.proofs.Order.{both-true}
 use Rattle.thread.specs.Code.{ok, einval}
 use Rattle.store.specs.Store.{Reply, refuse, accept, answer, Decided, Place, reply, Becomes, After, Did, looks, handed, first, Started}
-
--- two tests, one after the other
-pub both-true : (x y : Bool) → cond x y false ≡ true → (x ≡ true) × (y ≡ true)
-both-true true y e = (refl, e)
-both-true false y e = clash (sym e)
 
 pub any-some : {A : Type 0} (l : List A) → 0 < length l → any l ≡ true
 any-some [] f = absurd (omega arith)

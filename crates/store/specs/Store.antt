@@ -18,6 +18,11 @@ abbrev pub answer : {S : Type 0} → Reply S → ℤ
 answer (refuse r) = r
 answer (accept s r) = r
 
+-- what a reply leaves of s
+abbrev pub left : {S : Type 0} → Reply S → S → S
+left (refuse r) s = s
+left (accept t r) s = t
+
 -- what is decided on numbers, done to the whole object
 abbrev pub carry : {N S : Type 0} → (N → S) → Reply N → Reply S
 carry f (refuse r) = refuse r

@@ -1,5 +1,6 @@
 // The C interface: include/waitqueue.h.
 pub mod condvars;
+pub mod events;
 pub mod futexes;
 pub mod msgqs;
 pub mod mutexes;
@@ -10,3 +11,4 @@ pub mod semaphores;
 pub mod slabs;
 pub mod stacks;
 pub mod threads;
+pub mod timers;

@@ -1,0 +1,45 @@
+-- The contracts of the functions on plain numbers imply Gale's. Assumes nothing.
+use mathlib.Core.Path.{_≡_, sym, _∙_}
+use mathlib.Core.Bool.{Bool, true, false, cond}
+use Prim.Native.Nat.{ℕ}
+use native.Mathlib.Omega.{arith}
+use lib.Dec.{leb}
+use lib.IntN.{ℤ}
+use Rattle.thread.specs.Code.{ebusy, einval}
+use Rattle.store.specs.Store.{refuse, accept, Decided}
+use Rattle.event.specs.Event.{masked, matching, met, matched, pends, waits}
+use Rattle.event.specs.Upstream.{Inv, WaitDecide, PostDecide}
+use Rattle.event.proofs.Words.{and-is, replaced-is}
+
+module _ (e x : ℕ) (he : Inv e) (hx : Inv x) where
+  pub event-post-decide : (m r : ℕ) → Inv m → r ≡ masked x m e → PostDecide e x m r
+  event-post-decide m r hm p = p ∙ sym (replaced-is x m e hx hm he)
+
+  pub event-wait-decide : (t m : ℕ) (b : Bool) (r : ℤ) (m' : ℕ) → Decided (waits e x t b) m r m' → WaitDecide e x m r m'
+  event-wait-decide t m b r m' d = go (leb t 1) (met t x e) b d
+    where
+      go : (l c n : Bool) → Decided (cond l (cond c (accept (matching x e) matched) (cond n (refuse ebusy) (accept 0 pends))) (refuse einval)) m r m' → WaitDecide e x m r m'
+      go true true n d =
+          record {
+            matches = λ z. d .number ∙ sym (and-is x e hx he);
+            waiting = λ z. absurd (let y : _≡_ {A = ℕ} 0 1 = cc (d .code) in omega arith);
+            not-matched = λ z. absurd (z (d .code));
+          }
+      go true false true d =
+          record {
+            matches = λ z. absurd (let y : _≡_ {A = ℕ} 0 1 = cc (d .code) in omega arith);
+            waiting = λ z. absurd (let y : _≡_ {A = ℕ} 0 1 = cc (d .code) in omega arith);
+            not-matched = λ z p. d .number ∙ p;
+          }
+      go true false false d =
+          record {
+            matches = λ z. absurd (let y : _≡_ {A = ℕ} 0 1 = cc (d .code) in omega arith);
+            waiting = λ z. d .number;
+            not-matched = λ z p. d .number;
+          }
+      go false c n d =
+          record {
+            matches = λ z. absurd (let y : _≡_ {A = ℕ} 0 1 = cc (d .code) in omega arith);
+            waiting = λ z. absurd (let y : _≡_ {A = ℕ} 0 1 = cc (d .code) in omega arith);
+            not-matched = λ z p. d .number ∙ p;
+          }

@@ -1,0 +1,82 @@
+-- Our contracts imply those of Gale's event.rs. Assumes nothing.
+use mathlib.Core.Path.{_≡_, refl, sym, ap, _∙_}
+use mathlib.Core.Bool.{Bool, true, false, not}
+use mathlib.Core.Logic.{inl, inr}
+use mathlib.Core.List.{List, []}
+use Prim.Native.Nat.{ℕ, _≤_, _<_}
+use native.Mathlib.Omega.{arith}
+use borrow.Author.Tests.{le-leb, lt-leb, eqb-true, eqb-false}
+use lib.Bits.{bitAnd, bitOr, and-comm}
+use lib.Dec.{eqb}
+use lib.IntN.{ℤ, pos}
+use lib.ListN.{length, getD}
+use Rattle.seq.proofs.Bits.{bits-lt}
+use Rattle.thread.specs.Code.{einval}
+use Rattle.store.specs.Store.{Reply, accept, answer, Did, looks, Started}
+use Rattle.store.proofs.Laws.{became, answers, kept-bad, looks-is}
+use Rattle.event.specs.Event.{width, post, set, setMasked, clear, anyThere, allThere, told}
+use Rattle.event.specs.Post.{place}
+use Rattle.event.specs.Upstream.{Inv, Init, Post, Set, SetMasked, Clear, WaitCheckAny, WaitCheckAll, EventsGet}
+use Rattle.event.proofs.Words.{or-is, and-not-is, any-is, all-is, replaced-is}
+use Rattle.event.proofs.Lemmas.{post-monotonic}
+
+module _ (h : List ℕ) (r : ℤ) (h' : List ℕ) where
+  pub event-init : Started place true 0 h [] r h' [] → Init r (getD h' 0 0)
+  event-init s = record { inv = λ e. rw (s .made e .object) (omega arith); events = λ e. s .made e .object }
+
+  -- what is too short for a word of flags is refused, and stays
+  pub event-refuses : (f : ℕ → Reply ℕ) → length h < 1 → Did place f h [] r h' [] → (r ≡ einval) × (h' ≡ h)
+  event-refuses f k d = let y = kept-bad place f h [] d (lt-leb 1 (length h) k) in (y .0, y .1)
+
+  module _ (k : 1 ≤ length h) where
+    -- the word that a call leaves, and its answer
+    did : (f : ℕ → Reply ℕ) (e : ℕ) (a : ℤ) → f (getD h 0 0) ≡ accept e a → Did place f h [] r h' [] → (getD h' 0 0 ≡ e) × (r ≡ a)
+    did f e a o d =
+        let s = le-leb 1 (length h) k in
+        (became place f h [] d s o .object, answers place f h [] d s ∙ ap answer o)
+
+    pub event-set : (x : ℕ) → Inv x → Did place (set x) h [] r h' [] → Set x (getD h 0 0) r (getD h' 0 0)
+    event-set x i d = let y = did (set x) x (pos (getD h 0 0)) refl d in record { inv = rw (y .0) i; events = y .0; result = y .1 }
+
+    pub event-events-get : r ≡ looks place (λ e. pos e) h [] → EventsGet (getD h 0 0) r
+    event-events-get e = e ∙ looks-is place h [] (λ e. pos e) (le-leb 1 (length h) k)
+
+    module _ (x : ℕ) (he : Inv (getD h 0 0)) (hx : Inv x) where
+      pub event-post : Did place (post x) h [] r h' [] → Post x (getD h 0 0) r (getD h' 0 0)
+      event-post d =
+          let y = did (post x) _ _ refl d in
+          let p = y .0 ∙ sym (or-is x (getD h 0 0) hx he) in
+          record {
+            inv = rw (y .0) (bits-lt width _);
+            events = p;
+            result = y .1 ∙ ap pos (sym (y .0));
+            monotonic = ap (bitAnd (getD h 0 0)) p ∙ and-comm (getD h 0 0) (bitOr (getD h 0 0) x) ∙ post-monotonic (getD h 0 0) x he hx .words;
+          }
+
+      pub event-clear : Did place (clear x) h [] r h' [] → Clear x (getD h 0 0) r (getD h' 0 0)
+      event-clear d =
+          let y = did (clear x) _ _ refl d in
+          record { inv = rw (y .0) (bits-lt width _); events = y .0 ∙ sym (and-not-is x (getD h 0 0) hx he); result = y .1 ∙ ap pos (sym (y .0)) }
+
+      pub event-set-masked : (m : ℕ) → Inv m → Did place (setMasked x m) h [] r h' [] → SetMasked x m (getD h 0 0) r (getD h' 0 0)
+      event-set-masked m hm d =
+          let y = did (setMasked x m) _ _ refl d in
+          record { inv = rw (y .0) (bits-lt width _); events = y .0 ∙ sym (replaced-is x m (getD h 0 0) hx hm he); result = y .1 }
+
+      -- a test on memory is the test on words
+      tells : (f : ℕ → Bool) (b : Bool) → b ≡ f (getD h 0 0) → r ≡ looks place (λ e. told (f e)) h [] → r ≡ told b
+      tells f b p e = e ∙ looks-is place h [] (λ e. told (f e)) (le-leb 1 (length h) k) ∙ ap told (sym p)
+
+      pub event-wait-check-any : r ≡ looks place (λ e. told (anyThere x e)) h [] → WaitCheckAny x (getD h 0 0) r
+      event-wait-check-any e = go (eqb (bitAnd (getD h 0 0) x) 0) refl (tells (anyThere x) _ (any-is x (getD h 0 0) hx he) e)
+        where
+          go : (b : Bool) → eqb (bitAnd (getD h 0 0) x) 0 ≡ b → r ≡ told (not b) → WaitCheckAny x (getD h 0 0) r
+          go true p q = inr (q, λ n. n (eqb-true _ 0 p))
+          go false p q = inl (q, eqb-false _ 0 p)
+
+      pub event-wait-check-all : r ≡ looks place (λ e. told (allThere x e)) h [] → WaitCheckAll x (getD h 0 0) r
+      event-wait-check-all e = go (eqb (bitAnd (getD h 0 0) x) x) refl (tells (allThere x) _ (all-is x (getD h 0 0) hx he) e)
+        where
+          go : (b : Bool) → eqb (bitAnd (getD h 0 0) x) x ≡ b → r ≡ told b → WaitCheckAll x (getD h 0 0) r
+          go true p q = inl (q, eqb-true _ x p)
+          go false p q = inr (q, eqb-false _ x p)

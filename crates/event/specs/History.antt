@@ -1,0 +1,61 @@
+-- What holds of event flags after any sequence of calls.
+use mathlib.Core.Path.{_≡_}
+use mathlib.Core.Bool.{Bool, true, false, cond}
+use mathlib.Core.List.{List, [], _∷_}
+use Prim.Native.Nat.{ℕ, _≤_, _<_}
+use lib.ListN.{length, getD}
+use Rattle.seq.specs.Bits.{bit}
+use Rattle.store.specs.Store.{Reply, left}
+use Rattle.store.specs.History.{Event, Run}
+use Rattle.event.specs.Event.{width, post, set, setMasked, clear, posted, masked, cleared}
+use Rattle.event.specs.Post.{place}
+
+pub data Call : Type 0 where
+  posting : (new : ℕ) → Call
+  setting : (new : ℕ) → Call
+  settingMasked : (new mask : ℕ) → Call
+  clearing : (gone : ℕ) → Call
+
+abbrev pub does : Call → ℕ → Reply ℕ
+does (posting new) e = post new e
+does (setting new) e = set new e
+does (settingMasked new mask) e = setMasked new mask e
+does (clearing gone) e = clear gone e
+
+-- the flags after a call
+abbrev pub next : ℕ → Call → ℕ
+next e k = left (does k e) e
+
+-- what a call says of a flag: nothing, or whether it is there from now on
+pub data Word : Type 0 where
+  silent : Word
+  there : Bool → Word
+
+abbrev pub says : Call → ℕ → Word
+says (posting new) i = cond (bit i new) (there true) silent
+says (setting new) i = there (bit i new)
+says (settingMasked new mask) i = cond (bit i mask) (there (bit i new)) silent
+says (clearing gone) i = cond (bit i gone) (there false) silent
+
+abbrev pub heard : Word → Bool → Bool
+heard silent b = b
+heard (there c) b = c
+
+-- what the last call that spoke of flag i said, in the events of which the last is in front; b, if none did
+abbrev pub lastSaid : Bool → ℕ → List (Event Call) → Bool
+lastSaid b i [] = b
+lastSaid b i (e ∷ es) = heard (says (e .call) i) (lastSaid b i es)
+
+-- e were the flags before the events es, f are the flags after them: a flag is there exactly if the last call that spoke of it put it there
+abbrev pub Promise : ℕ → List (Event Call) → ℕ → Type 0
+Promise e es f = (i : ℕ) → i < width → bit i f ≡ lastSaid (bit i e) i es
+
+-- any events, in memory
+abbrev pub Always : Type 0
+Always = (h h' : List ℕ) (es : List (Event Call)) → 1 ≤ length h → Run place does h [] es h' [] → Promise (getD h 0 0) es (getD h' 0 0)
+
+-- each call is one that replaces the flags of a mask, as post_decide does
+pub record AllMasked (e x : ℕ) : Type 0 where
+  pub posts : posted x e ≡ masked x x e
+  pub sets : x ≡ masked x 4294967295 e
+  pub clears : cleared x e ≡ masked 0 x e

@@ -1,0 +1,5 @@
+pub mod Event
+pub mod Post
+pub mod History
+pub mod Waiting
+pub mod Upstream

@@ -1,0 +1,3 @@
+pub mod Timeout
+pub mod Post
+pub mod History

@@ -1,0 +1,159 @@
+-- Our contracts imply those of Gale's timer.rs. Assumes nothing.
+use mathlib.Core.Path.{_≡_, refl, sym, ap, subst, _∙_}
+use mathlib.Core.Bool.{Bool, true, false}
+use mathlib.Core.List.{List, []}
+use mathlib.Core.Logic.{_⊎_, inl, inr}
+use Prim.Native.Nat.{ℕ, zero, suc, _≤_, _<_}
+use native.Mathlib.Omega.{arith}
+use native.Mathlib.Numerals.{add-one}
+use lib.Dec.{eqb}
+use lib.IntN.{ℤ, pos, negsuc}
+use lib.ListN.{length, getD}
+use borrow.Author.Tests.{lt-ltb, le-leb, lt-leb, eqb-true, eqb-false}
+use Rattle.thread.specs.Code.{einval}
+use Rattle.thread.specs.Upstream.{Tells}
+use Rattle.store.specs.Store.{Reply, answer, left, Decided, Did, looks, Started}
+use Rattle.store.proofs.Laws.{answers, kept-bad, looks-is, looks-bad, decided, declined}
+use Rattle.store.proofs.Histories.{done}
+use Rattle.timer.specs.Timer.{Timer, timer, most, expireDecide, start, stop, expire, statusGet, count, ticks, runs, fresh}
+use Rattle.timer.specs.Post.{place}
+use Rattle.timer.specs.History.{does}
+use Rattle.timer.specs.Upstream.{Init, Start, Stop, Expire, StatusGet, IsRunning, PeriodGet, StatusPeek, ExpireDecide, Inductive, Roundtrip, StartResets, StopClears, OverflowRejected, Classified}
+use Rattle.timer.proofs.Answers.{decide-most, decide-once, decide-again}
+use Rattle.timer.proofs.Histories.{Expires, counts, stays, which}
+
+pub timer-init : (p : ℕ) (h h' : List ℕ) (r : ℤ) → 3 ≤ length h → Started place true (fresh p) h [] r h' [] → Init p (place .object h' [])
+timer-init p h h' r k s =
+    let o = s .made (s .code ∙ rw (le-leb 3 (length h) k)) .object in
+    subst (λ (t : Timer). Init p t) (sym o) (record { status = refl; kept = refl; stopped = refl; once = λ e. e; again = λ e. e })
+
+pub init-refuses : (p : ℕ) (h h' : List ℕ) (r : ℤ) → length h < 3 → Started place true (fresh p) h [] r h' [] → (r ≡ einval) × (h' ≡ h)
+init-refuses p h h' r k s =
+    let e : r ≡ einval = s .code ∙ rw (lt-leb 3 (length h) k) in
+    (e, s .kept 21 e .0)
+
+expires-upstream : (s p x : ℕ) → s ≤ most → {y : Reply Timer} → Expires s p x y → Expire (timer s p x) (answer y) (left y (timer s p x))
+expires-upstream s p x f (counts b) =
+    record {
+      period = refl;
+      running = refl;
+      counted = λ n e. sym (add-one s);
+      told = λ n e. cc;
+      code = λ g. absurd (g (suc s) refl);
+      stayed = λ g. absurd (g (suc s) refl);
+      over = λ g. absurd (g (suc s) refl);
+    }
+expires-upstream s p x f (stays b) =
+    record {
+      period = refl;
+      running = refl;
+      counted = λ n e. absurd (none n e);
+      told = λ n e. absurd (none n e);
+      code = λ g. refl;
+      stayed = λ g. refl;
+      over = λ g. omega arith;
+    }
+  where
+    none : (n : ℕ) → negsuc 138 ≡ pos n → ⊥
+    none n e = let y : _≡_ {A = ℕ} 0 1 = cc in omega arith
+
+module _ (h h' : List ℕ) (r : ℤ) where
+  -- what upstream has no word for: a header that is too short
+  pub refuses : (f : Timer → Reply Timer) → length h < 3 → Did place f h [] r h' [] → (r ≡ einval) × (h' ≡ h)
+  refuses f k d = let e = kept-bad place f h [] d (lt-leb 3 (length h) k) in (e .0, e .1)
+
+  pub get-refuses : (f : Timer → ℤ) → length h < 3 → r ≡ looks place f h [] → r ≡ einval
+  get-refuses f k d = d ∙ looks-bad place h [] f (lt-leb 3 (length h) k)
+
+  module _ (k : 3 ≤ length h) where
+    -- what holds of the operation holds of the memory
+    holds : (f : Timer → Reply Timer) (R : ℤ → Timer → Type 0) → Did place f h [] r h' [] → R (answer (f (place .object h []))) (left (f (place .object h [])) (place .object h []))
+        → R r (place .object h' [])
+    holds f R d a =
+        let e = le-leb 3 (length h) k in
+        subst (λ (t : Timer). R r t) (sym (done place f h [] e d .1))
+        (subst (λ (z : ℤ). R z (left (f (place .object h [])) (place .object h []))) (sym (answers place f h [] d e)) a)
+
+    pub timer-start : Did place start h [] r h' [] → Start (place .object h []) (place .object h' [])
+    timer-start d = holds start (λ z t. Start (place .object h []) t) d (record { period = refl; status = refl; running = λ e. omega arith })
+
+    pub timer-stop : Did place stop h [] r h' [] → Stop (place .object h []) (place .object h' [])
+    timer-stop d = holds stop (λ z t. Stop (place .object h []) t) d (record { period = refl; status = refl; running = refl })
+
+    -- the count is a word of 32 bits
+    pub timer-expire : getD h 0 0 ≤ most → Did place expire h [] r h' [] → Expire (place .object h []) r (place .object h' [])
+    timer-expire b d = holds expire (Expire (place .object h [])) d (expires-upstream (getD h 0 0) (getD h 1 0) (getD h 2 0) b (which (getD h 0 0) (getD h 1 0) (getD h 2 0)))
+
+    pub timer-status-get : Did place statusGet h [] r h' [] → StatusGet (place .object h []) r (place .object h' [])
+    timer-status-get d = holds statusGet (StatusGet (place .object h [])) d (record { period = refl; running = refl; told = refl; status = refl })
+
+    seen : (f : Timer → ℤ) → r ≡ looks place f h [] → r ≡ f (place .object h [])
+    seen f d = d ∙ looks-is place h [] f (le-leb 3 (length h) k)
+
+    pub status-peek : r ≡ looks place count h [] → StatusPeek (place .object h []) r
+    status-peek d = seen count d
+
+    pub period-get : r ≡ looks place ticks h [] → PeriodGet (place .object h []) r
+    period-get d = seen ticks d
+
+    pub is-running : r ≡ looks place runs h [] → IsRunning (place .object h []) r
+    is-running d = go (eqb (getD h 2 0) 0) refl
+      where
+        go : (b : Bool) → eqb (getD h 2 0) 0 ≡ b → IsRunning (place .object h []) r
+        go true e = inl (rw e at (seen runs d), eqb-true (getD h 2 0) 0 e)
+        go false e = inr (rw e at (seen runs d), eqb-false (getD h 2 0) 0 e)
+
+module _ (s p m : ℕ) (r : ℤ) (m' : ℕ) (d : Decided (expireDecide s p) m r m') where
+  pub expire-decide : ExpireDecide s p m r m'
+  expire-decide =
+      record {
+        counted = λ b. go b (eqb p 0) refl .0 ∙ sym (add-one s);
+        stayed = λ e f. declined (decide-most s p e) d .1 ∙ f ∙ e;
+        periodic = λ b. go b (eqb p 0) refl .1;
+      }
+    where
+      go : s < most → (b : Bool) → eqb p 0 ≡ b → (m' ≡ suc s) × Tells (pos 1) (pos 0) r (0 < p)
+      go b true e =
+          let y = decided (decide-once s p b (eqb-true p 0 e)) d in
+          (y .1, inr (y .0, λ k. omega (arith, eqb-true p 0 e)))
+      go b false e =
+          let y = decided (decide-again s p b (eqb-false p 0 e)) d in
+          (y .1, inl (y .0, some p (eqb-false p 0 e)))
+        where
+          some : (p : ℕ) → (p ≡ 0 → ⊥) → 0 < p
+          some p f = omega arith
+
+  pub expire-decide-refuses : s ≡ most → (r ≡ negsuc 138) × (m' ≡ m)
+  expire-decide-refuses e = declined (decide-most s p e) d
+
+pub invariant-inductive : Inductive
+invariant-inductive = record { init = λ p h h' s. s .made refl .formed; calls = λ k h h' r e d. done place (does k) h [] e d .0 }
+
+pub expire-status-get-roundtrip : (s p x : ℕ) → s < most → Roundtrip s p x
+expire-status-get-roundtrip s p x b =
+    record {
+      number = rw (lt-ltb s most b) (sym (add-one s));
+      told = rw (lt-ltb s most b) (ap pos (sym (add-one s)));
+      cleared = refl;
+    }
+
+pub start-resets-status : StartResets
+start-resets-status t = refl
+
+pub stop-clears-state : StopClears
+stop-clears-state t = (refl, refl)
+
+pub overflow-rejected : OverflowRejected
+overflow-rejected p x = refl
+
+pub period-classification : (p : ℕ) → Classified p
+period-classification p =
+    record {
+      either = go p;
+      once = λ e s b. decide-once s p b e;
+      again = λ e s b. decide-again s p b (λ z. omega arith);
+    }
+  where
+    go : (p : ℕ) → (p ≡ 0) ⊎ (0 < p)
+    go zero = inl refl
+    go (suc p) = inr (omega arith)

@@ -1,0 +1,30 @@
+-- One law for each answer. Assumes nothing.
+use native.Mathlib.Omega.{arith}
+use lib.ListN.{length-set}
+use Rattle.timer.proofs.Answers.{init-short, init-made}
+use borrow.Author.Needs.{needs}
+use Rattle.timer.proofs.init.Statement.{statement}
+use Rattle.timer.proofs.init.Tie as tie
+
+returns : tie.Need-returns
+returns c = init-short (c .before .args .h .now) (omega arith) (c .before .args .period)
+
+slice-write-h : tie.Need-slice-write-h
+slice-write-h c = search needs
+
+slice-write-h-2 : tie.Need-slice-write-h-2
+slice-write-h-2 c = omega (arith, length-set (c .before .args .h .now) 0 0)
+
+slice-write-h-3 : tie.Need-slice-write-h-3
+slice-write-h-3 c = search needs
+
+same-length : tie.Need-same-length
+same-length c = search needs
+
+returns-2 : tie.Need-returns-2
+returns-2 c = init-made (c .before .args .h .now) (omega arith) (c .before .args .period)
+
+pub init-spec : {M : Type 1} → statement M
+init-spec =
+    tie.close
+    (tie.spec returns slice-write-h slice-write-h-2 slice-write-h-3 same-length returns-2)

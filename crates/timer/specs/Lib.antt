@@ -1,0 +1,4 @@
+pub mod Timer
+pub mod Post
+pub mod History
+pub mod Upstream
