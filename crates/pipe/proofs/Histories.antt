@@ -165,11 +165,11 @@ module _ (p : Pipe) (e : p .resetting ≡ true) (z : p .ring .held ≡ []) where
   void closes f = absurd (f tt)
   void clears f = absurd (f tt)
 
-pub void-run : {h b h' b' : List ℕ} {es : List Event} → Runs h b es h' b' → formed h b ≡ true → object h b .resetting ≡ true → object h b .ring .held ≡ []
+pub cancels : {h b h' b' : List ℕ} {es : List Event} → Runs h b es h' b' → formed h b ≡ true → object h b .resetting ≡ true → object h b .ring .held ≡ []
     → All (λ (e : Event). Ends (e .call) → ⊥) es → Cancelled es h' b'
-void-run stop f e z n = record { stays = e; empty = z; cancelled = tt }
-void-run {h} {b} (call k r o d g rest) f e z n =
+cancels stop f e z n = record { stays = e; empty = z; cancelled = tt }
+cancels {h} {b} (call k r o d g rest) f e z n =
     let s = step k f d g in
     let v = void (object h b) e z k (n .0) in
-    let c = void-run rest (s .good) (ap (λ (p : Pipe). p .resetting) (s .is) ∙ v .0) (ap (λ (p : Pipe). p .ring .held) (s .is) ∙ v .1 .0) (n .1) in
+    let c = cancels rest (s .good) (ap (λ (p : Pipe). p .resetting) (s .is) ∙ v .0) (ap (λ (p : Pipe). p .ring .held) (s .is) ∙ v .1 .0) (n .1) in
     record { stays = c .stays; empty = c .empty; cancelled = (subst (λ (x : ℤ). cancelled k x o) (sym (s .answered)) (subst (cancelled k (answer (does k (object h b)))) (sym (s .given)) (v .1 .1)), c .cancelled) }
