@@ -837,6 +837,187 @@ static inline int32_t wq_k_mem_slab_is_empty(const struct wq_mem_slab *s)
     return wq_mem_slab_is_empty(s->head, s->link, s->link_len);
 }
 
+/* ---- Event flags -------------------------------------------------------------------------- */
+
+/* 32 flags, one in each bit. */
+struct wq_event {
+    uint32_t head[1]; /* the flags */
+};
+
+/* For what a thread waits: for any flag of a set, or for all of them. */
+enum wq_wait_type { WQ_WAIT_ANY = 0, WQ_WAIT_ALL = 1 };
+
+/* What a wait is to do: the condition holds; the caller waits (WQ_WAITS). */
+enum wq_event_wait { WQ_EVENT_WAIT_MATCHED = 0, WQ_EVENT_WAIT_PEND = 1 };
+
+int32_t wq_event_init(uint32_t *head);
+int64_t wq_event_post(uint32_t *head, uint32_t new_events);
+int64_t wq_event_set(uint32_t *head, uint32_t new_events);
+int64_t wq_event_set_masked(uint32_t *head, uint32_t new_events, uint32_t mask);
+int64_t wq_event_clear(uint32_t *head, uint32_t clear_events);
+int32_t wq_event_wait_check_any(const uint32_t *head, uint32_t desired);
+int32_t wq_event_wait_check_all(const uint32_t *head, uint32_t desired);
+int64_t wq_event_events_get(const uint32_t *head);
+
+/* On plain numbers: what a wait would do. *matched is written unless the answer is below 0: the flags that are desired
+ * and there, or 0 if the caller waits. WQ_EBUSY: the condition does not hold, and the caller does not wait; WQ_EINVAL: a
+ * wait type above 1. To wait for all of no flags matches, with no flags; to wait for any of none never does. */
+int32_t wq_event_wait_decide(uint32_t current_events, uint32_t desired, uint32_t wait_type, bool is_no_wait,
+                             uint32_t *matched); /* enum wq_event_wait; WQ_EBUSY, WQ_EINVAL */
+/* The flags of current_events, those of the mask replaced by new_events: as set_masked. */
+uint32_t wq_event_post_decide(uint32_t current_events, uint32_t new_events, uint32_t mask);
+
+/* WQ_OK: no flag is there. */
+static inline int32_t wq_k_event_init(struct wq_event *e) { return wq_event_init(e->head); }
+/* The flags after it: new_events are there too. */
+static inline int64_t wq_k_event_post(struct wq_event *e, uint32_t new_events) { return wq_event_post(e->head, new_events); }
+/* The flags before it; they are new_events now. */
+static inline int64_t wq_k_event_set(struct wq_event *e, uint32_t new_events) { return wq_event_set(e->head, new_events); }
+/* The flags before it; those of the mask are as in new_events now. */
+static inline int64_t wq_k_event_set_masked(struct wq_event *e, uint32_t new_events, uint32_t mask)
+{
+    return wq_event_set_masked(e->head, new_events, mask);
+}
+/* The flags after it: clear_events are gone. */
+static inline int64_t wq_k_event_clear(struct wq_event *e, uint32_t clear_events)
+{
+    return wq_event_clear(e->head, clear_events);
+}
+/* 1: one of the desired flags is there; 0. */
+static inline int32_t wq_k_event_wait_check_any(const struct wq_event *e, uint32_t desired)
+{
+    return wq_event_wait_check_any(e->head, desired);
+}
+/* 1: all of the desired flags are there; 0. */
+static inline int32_t wq_k_event_wait_check_all(const struct wq_event *e, uint32_t desired)
+{
+    return wq_event_wait_check_all(e->head, desired);
+}
+/* The flags. */
+static inline int64_t wq_k_event_events_get(const struct wq_event *e) { return wq_event_events_get(e->head); }
+
+/* ---- Timer -------------------------------------------------------------------------------- */
+
+struct wq_timer {
+    uint32_t head[3]; /* how often it expired since it was read, its period, whether it runs (0: no) */
+};
+
+int32_t wq_timer_init(uint32_t *head, uint32_t period);
+int32_t wq_timer_start(uint32_t *head);
+int32_t wq_timer_stop(uint32_t *head);
+int64_t wq_timer_expire(uint32_t *head);
+int64_t wq_timer_status_get(uint32_t *head);
+int64_t wq_timer_status_peek(const uint32_t *head);
+int64_t wq_timer_period_get(const uint32_t *head);
+int32_t wq_timer_is_running(const uint32_t *head);
+
+/* On plain numbers: 1 if it is periodic, 0 if not, and *new_status is one more; WQ_EOVERFLOW: the status is 2^32 - 1, and
+ * *new_status stays. */
+int32_t wq_timer_expire_decide(uint32_t status, uint32_t period, uint32_t *new_status);
+
+/* WQ_OK: it does not run and never expired. */
+static inline int32_t wq_k_timer_init(struct wq_timer *t, uint32_t period) { return wq_timer_init(t->head, period); }
+/* WQ_OK: it runs, or does not, and the count is 0. The period stays. */
+static inline int32_t wq_k_timer_start(struct wq_timer *t) { return wq_timer_start(t->head); }
+static inline int32_t wq_k_timer_stop(struct wq_timer *t) { return wq_timer_stop(t->head); }
+/* How often it expired, this time too; WQ_EOVERFLOW: 2^32 - 1 times already. It is not asked whether it runs. */
+static inline int64_t wq_k_timer_expire(struct wq_timer *t) { return wq_timer_expire(t->head); }
+/* How often it expired since it was read last; the count is 0 now. */
+static inline int64_t wq_k_timer_status_get(struct wq_timer *t) { return wq_timer_status_get(t->head); }
+/* The same, and the count stays; the period. */
+static inline int64_t wq_k_timer_status_peek(const struct wq_timer *t) { return wq_timer_status_peek(t->head); }
+static inline int64_t wq_k_timer_period_get(const struct wq_timer *t) { return wq_timer_period_get(t->head); }
+/* 1, 0. */
+static inline int32_t wq_k_timer_is_running(const struct wq_timer *t) { return wq_timer_is_running(t->head); }
+
+/* ---- Timeout ------------------------------------------------------------------------------ */
+
+/* A deadline in ticks, and a clock. */
+struct wq_timeout {
+    uint64_t head[3]; /* the deadline, whether it is active (0: no), the clock */
+};
+
+#define WQ_K_FOREVER_TICKS UINT64_MAX /* never */
+#define WQ_K_NO_WAIT_TICKS UINT64_C(0) /* at once */
+
+int32_t wq_timeout_init(uint64_t *head, uint64_t current_tick);
+int32_t wq_timeout_add(uint64_t *head, uint64_t duration, uint64_t *deadline);
+int32_t wq_timeout_add_absolute(uint64_t *head, uint64_t deadline);
+int32_t wq_timeout_add_forever(uint64_t *head);
+int32_t wq_timeout_add_no_wait(uint64_t *head);
+int32_t wq_timeout_abort(uint64_t *head);
+int32_t wq_timeout_announce(uint64_t *head, uint64_t ticks);
+int32_t wq_timeout_remaining(const uint64_t *head, uint64_t *ticks);
+int32_t wq_timeout_expires(const uint64_t *head, uint64_t *tick);
+int32_t wq_timeout_is_active(const uint64_t *head);
+int32_t wq_timeout_is_forever(const uint64_t *head);
+int32_t wq_timeout_is_no_wait(const uint64_t *head);
+int32_t wq_timeout_now(const uint64_t *head, uint64_t *tick);
+int32_t wq_timeout_timepoint_calc(const uint64_t *head, uint64_t duration, uint64_t *timepoint);
+int32_t wq_timeout_timepoint_timeout(const uint64_t *head, uint64_t timepoint, uint64_t *ticks);
+
+/* On plain numbers. WQ_OK, and *deadline is the clock plus the duration; WQ_EINVAL: that would reach 2^64 - 1. */
+int32_t wq_timeout_add_decide(uint64_t current_tick, uint64_t duration, uint64_t *deadline);
+bool wq_timeout_abort_decide(bool is_active); /* whether there is something to abort */
+/* 1: it fires; 0: not; *new_tick is the clock then. WQ_EINVAL: the clock would reach 2^64 - 1, or an active deadline lies
+ * behind it without being 0; *new_tick stays. */
+int32_t wq_timeout_announce_decide(uint64_t current_tick, uint64_t ticks, uint64_t deadline, bool active,
+                                   uint64_t *new_tick);
+
+/* WQ_OK: it is not active, and its clock is at current_tick; WQ_EINVAL: that is 2^64 - 1. */
+static inline int32_t wq_k_timeout_init(struct wq_timeout *t, uint64_t current_tick)
+{
+    return wq_timeout_init(t->head, current_tick);
+}
+/* WQ_OK: it is active, with the deadline *deadline, the clock plus the duration. WQ_EINVAL: malformed; WQ_EBUSY: it is
+ * active already; WQ_EINVAL: the sum would reach 2^64 - 1. */
+static inline int32_t wq_k_timeout_add(struct wq_timeout *t, uint64_t duration, uint64_t *deadline)
+{
+    return wq_timeout_add(t->head, duration, deadline);
+}
+/* WQ_OK: it is active with this deadline; WQ_EINVAL: malformed; WQ_EBUSY; WQ_EINVAL: behind the clock, or 2^64 - 1. */
+static inline int32_t wq_k_timeout_add_absolute(struct wq_timeout *t, uint64_t deadline)
+{
+    return wq_timeout_add_absolute(t->head, deadline);
+}
+/* WQ_OK: it is active and never fires, or fires at the next announcement; WQ_EINVAL, WQ_EBUSY. */
+static inline int32_t wq_k_timeout_add_forever(struct wq_timeout *t) { return wq_timeout_add_forever(t->head); }
+static inline int32_t wq_k_timeout_add_no_wait(struct wq_timeout *t) { return wq_timeout_add_no_wait(t->head); }
+/* WQ_OK: it was active and is not; WQ_EINVAL: it was not, or malformed. */
+static inline int32_t wq_k_timeout_abort(struct wq_timeout *t) { return wq_timeout_abort(t->head); }
+/* 1: the clock moved, and it fired: it was active, not never, and due; it is not active now. 0: the clock moved.
+ * WQ_EINVAL: the clock would reach 2^64 - 1, and stays; or malformed. */
+static inline int32_t wq_k_timeout_announce(struct wq_timeout *t, uint64_t ticks)
+{
+    return wq_timeout_announce(t->head, ticks);
+}
+/* WQ_OK, and the ticks until it fires: 0 if it is not active or due, 2^64 - 1 if never. WQ_EINVAL. */
+static inline int32_t wq_k_timeout_remaining(const struct wq_timeout *t, uint64_t *ticks)
+{
+    return wq_timeout_remaining(t->head, ticks);
+}
+/* WQ_OK, and the deadline; the clock, if it is not active. WQ_EINVAL. */
+static inline int32_t wq_k_timeout_expires(const struct wq_timeout *t, uint64_t *tick)
+{
+    return wq_timeout_expires(t->head, tick);
+}
+/* 1, 0; WQ_EINVAL. Forever and no wait speak of the deadline, active or not. */
+static inline int32_t wq_k_timeout_is_active(const struct wq_timeout *t) { return wq_timeout_is_active(t->head); }
+static inline int32_t wq_k_timeout_is_forever(const struct wq_timeout *t) { return wq_timeout_is_forever(t->head); }
+static inline int32_t wq_k_timeout_is_no_wait(const struct wq_timeout *t) { return wq_timeout_is_no_wait(t->head); }
+/* WQ_OK, and the clock. WQ_EINVAL. */
+static inline int32_t wq_k_timeout_now(const struct wq_timeout *t, uint64_t *tick) { return wq_timeout_now(t->head, tick); }
+/* WQ_OK, and the clock plus the duration; WQ_EINVAL: that would reach 2^64 - 1, or malformed. */
+static inline int32_t wq_k_timeout_timepoint_calc(const struct wq_timeout *t, uint64_t duration, uint64_t *timepoint)
+{
+    return wq_timeout_timepoint_calc(t->head, duration, timepoint);
+}
+/* WQ_OK, and the ticks from the clock to the timepoint: 0 if that is behind, 2^64 - 1 if that is never. WQ_EINVAL. */
+static inline int32_t wq_k_timeout_timepoint_timeout(const struct wq_timeout *t, uint64_t timepoint, uint64_t *ticks)
+{
+    return wq_timeout_timepoint_timeout(t->head, timepoint, ticks);
+}
+
 #ifdef __cplusplus
 }
 #endif

@@ -11,4 +11,5 @@ pub mod semaphores;
 pub mod slabs;
 pub mod stacks;
 pub mod threads;
+pub mod timeouts;
 pub mod timers;
