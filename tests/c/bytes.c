@@ -1,4 +1,4 @@
-/* What the tests of ring, message queue and pipe share: bytes, a plain model of what is held, and rings of bytes.
+/* What tests share: numbers, bytes, a plain model of what is held, and rings of bytes.
  *
  * SPDX-License-Identifier: Apache-2.0
  */
@@ -7,6 +7,8 @@
 #include <string.h>
 
 #include "check.h"
+
+const uint32_t edges[EDGES] = {0, 1, 2, (1u << 31) - 1, 1u << 31, (1u << 31) + 1, UINT32_MAX - 1, UINT32_MAX};
 
 uint8_t *huge(void)
 {
@@ -27,6 +29,13 @@ uint32_t random_below(uint32_t below)
     static uint32_t random = 12345;
     random = random * 1664525u + 1013904223u;
     return (random >> 8) % below;
+}
+
+uint64_t random_word(void)
+{
+    uint64_t word;
+    fill_randomly((uint8_t *)&word, sizeof word);
+    return word;
 }
 
 void fill_randomly(uint8_t *bytes, size_t count)

@@ -41,6 +41,9 @@ struct memory {
     GUARDED(struct wq_pipe, pipe);
     GUARDED(struct wq_stack, stack);
     GUARDED(struct wq_mem_slab, slab);
+    GUARDED(struct wq_event, event);
+    GUARDED(struct wq_timer, timer);
+    GUARDED(struct wq_timeout, timeout);
     GUARDED(uint8_t, buf)[ROOM]; /* where a ring, a message queue or a pipe keeps what it holds */
     GUARDED(uint8_t, src)[ROOM]; /* what goes in */
     GUARDED(uint8_t, got)[ROOM]; /* what comes out */
@@ -64,6 +67,7 @@ void allow(const void *part, size_t size); /* this part of the memory may have c
 /* This part of the memory is to be that since. */
 void becomes(const void *part, const void *now, size_t size);
 void word_becomes(const uint32_t *part, uint32_t now);
+void long_becomes(const uint64_t *part, uint64_t now);
 
 #define UP_TO(name, most) for (uint32_t name = 0; name <= (most); name++)
 
@@ -110,6 +114,17 @@ size_t all_in_order(uint32_t *ids);
 /* These threads stand in m.out, each with the result, and what is behind them is as it was kept. */
 bool handed_out(int32_t result, const uint32_t *ids, size_t count);
 
+/* ---- Numbers --------------------------------------------------------------------------------- */
+
+enum { EDGES = 8 };
+
+/* Small numbers, those about 2^31, and the largest. */
+extern const uint32_t edges[EDGES];
+
+/* A number from 0 to below. The numbers are the same in every run. */
+uint32_t random_below(uint32_t below);
+uint64_t random_word(void);
+
 /* ---- Bytes ----------------------------------------------------------------------------------- */
 
 /* A length beyond 32 bits, and so many bytes. Hardly any of them is reached, so they take no memory. */
@@ -119,8 +134,6 @@ uint8_t *huge(void);
 /* How many of len bytes there is room for, or of which there are most. */
 int64_t lesser(uint64_t len, uint32_t most);
 
-/* A number from 0 to below. The numbers are the same in every run. */
-uint32_t random_below(uint32_t below);
 void fill_randomly(uint8_t *bytes, size_t count);
 
 /* What an object holds, in the order in which it is to come out. */
@@ -200,6 +213,6 @@ struct group {
 #define GROUP(name, tests) {name, tests, COUNT_OF(tests)}
 
 extern const struct group thread_group, wait_queue_group, sem_group, mutex_group, condvar_group, futex_group,
-    ring_buf_group, msgq_group, pipe_group, stack_group, mem_slab_group;
+    ring_buf_group, msgq_group, pipe_group, stack_group, mem_slab_group, event_group, timer_group, timeout_group;
 
 #endif

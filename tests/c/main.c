@@ -39,6 +39,8 @@ void becomes(const void *part, const void *now, size_t size)
 
 void word_becomes(const uint32_t *part, uint32_t now) { becomes(part, &now, sizeof now); }
 
+void long_becomes(const uint64_t *part, uint64_t now) { becomes(part, &now, sizeof now); }
+
 void allow(const void *part, size_t size) { becomes(part, part, size); }
 
 static bool filled(const void *from, const void *to)
@@ -73,6 +75,9 @@ static const struct gap {
     BEFORE(pipe),
     BEFORE(stack),
     BEFORE(slab),
+    BEFORE(event),
+    BEFORE(timer),
+    BEFORE(timeout),
     BEFORE(buf),
     BEFORE(src),
     BEFORE(got),
@@ -128,9 +133,10 @@ bool handed_out(int32_t result, const uint32_t *ids, size_t count)
 
 int main(void)
 {
-    const struct group *groups[] = {&thread_group,   &wait_queue_group, &sem_group,   &mutex_group,
-                                    &condvar_group,  &futex_group,      &ring_buf_group, &msgq_group,
-                                    &pipe_group,     &stack_group,      &mem_slab_group};
+    const struct group *groups[] = {&thread_group,  &wait_queue_group, &sem_group,      &mutex_group,
+                                    &condvar_group, &futex_group,      &ring_buf_group, &msgq_group,
+                                    &pipe_group,    &stack_group,      &mem_slab_group, &event_group,
+                                    &timer_group,   &timeout_group};
     unsigned passed = 0, failed = 0;
 
     for (size_t g = 0; g < COUNT_OF(groups); g++) {

@@ -27,19 +27,12 @@ static void numbers(int64_t capacity, int64_t count)
     CHECK(stays());
 }
 
-static uint64_t random_word(void)
-{
-    uint64_t word;
-    fill_randomly((uint8_t *)&word, sizeof word);
-    return word;
-}
-
 static void push(uint64_t data)
 {
     const uint32_t count = m.stack.head[COUNT];
     keep();
     EQUAL(wq_k_stack_push(&m.stack, data), WQ_OK);
-    becomes(&m.word[count], &data, sizeof data);
+    long_becomes(&m.word[count], data);
     word_becomes(&m.stack.head[COUNT], count + 1);
     CHECK(stays());
 }
@@ -49,7 +42,7 @@ static void pop(uint64_t data)
     const uint32_t count = m.stack.head[COUNT];
     keep();
     EQUAL(wq_k_stack_pop(&m.stack, &m.data), WQ_OK);
-    becomes(&m.data, &data, sizeof data);
+    long_becomes(&m.data, data);
     word_becomes(&m.stack.head[COUNT], count - 1);
     CHECK(stays());
 }
