@@ -1,14 +1,14 @@
-//! Functions on plain numbers that answer more than a code: what they are asked, and what they decide.
+//! Functions on plain numbers of 32 or 64 bits that answer more than a code: what they are asked, and what they decide.
 
 /// A code or a number, and the numbers that are written beside it. A refusal writes none.
 #[derive(Debug, PartialEq, Eq)]
-pub struct Decision {
+pub struct Decision<W = u32> {
     pub code: i64,
-    pub numbers: Vec<u32>,
+    pub numbers: Vec<W>,
 }
 
-impl Decision {
-    pub fn new(code: impl Into<i64>, numbers: &[u32]) -> Self {
+impl<W: Copy> Decision<W> {
+    pub fn new(code: impl Into<i64>, numbers: &[W]) -> Self {
         Decision { code: code.into(), numbers: numbers.to_vec() }
     }
 
@@ -17,11 +17,11 @@ impl Decision {
     }
 }
 
-pub enum Arg {
+pub enum Arg<W: 'static = u32> {
     Number,
     Flag,
     /// One of these.
-    Of(&'static [u32]),
+    Of(&'static [W]),
 }
 
 /// Where ours does not decide as Gale does: the row that says so, and what ours answers.
@@ -43,20 +43,21 @@ impl Apart {
 }
 
 /// A decide function of Gale.
-pub struct Decide {
+pub struct Decide<W: 'static = u32> {
     pub name: &'static str,
-    pub args: &'static [Arg],
-    pub apart: fn(&[u32]) -> Option<Apart>,
-    pub gale: fn(&[u32]) -> Decision,
+    pub args: &'static [Arg<W>],
+    pub apart: fn(&[W]) -> Option<Apart>,
+    pub gale: fn(&[W]) -> Decision<W>,
 }
 
-impl Decide {
+impl<W: Copy + From<bool>> Decide<W> {
     /// All inputs in which each number is one of these.
-    pub fn inputs(&self, numbers: &[u32]) -> Vec<Vec<u32>> {
+    pub fn inputs(&self, numbers: &[W]) -> Vec<Vec<W>> {
+        let flags = [false, true].map(W::from);
         self.args.iter().fold(vec![Vec::new()], |inputs, arg| {
             let values = match arg {
                 Arg::Number => numbers,
-                Arg::Flag => &[0, 1],
+                Arg::Flag => &flags,
                 Arg::Of(values) => values,
             };
             inputs.iter().flat_map(|input| values.iter().map(|&value| [input.as_slice(), &[value]].concat())).collect()
@@ -64,6 +65,6 @@ impl Decide {
     }
 }
 
-pub fn words<const N: usize>(input: &[u32]) -> [u32; N] {
+pub fn words<W: Copy, const N: usize>(input: &[W]) -> [W; N] {
     input.try_into().unwrap()
 }

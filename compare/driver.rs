@@ -2,6 +2,7 @@
 
 mod answer;
 mod decide;
+mod decisions;
 mod lent;
 mod lent_memory;
 mod memory;

@@ -1,9 +1,7 @@
 //! What all objects over lent elements share.
 
-use crate::decide::{Decide, Decision};
-use crate::numbers::edges;
 use crate::ours::lent::{Cell, Lent, Library, Memory, Reply, ROOM};
-use crate::report::{Kind, Report};
+use crate::report::Kind;
 use crate::rng::Rng;
 use crate::upstream::Counts;
 use crate::walk::Pair;
@@ -207,50 +205,4 @@ pub fn same_numbers<T: Object<N>, const N: usize>(
         return Ok(());
     }
     Err(format!("numbers: Gale {theirs:?}, ours {ours:?}"))
-}
-
-/// What ours is to decide.
-fn expected_decision(decide: &Decide, input: &[u32]) -> Result<(Decision, Kind), String> {
-    let Some(apart) = (decide.apart)(input) else { return Ok(((decide.gale)(input), Kind::Same)) };
-    let refusal = Decision::refusal(apart.code);
-    let Some(codes) = apart.gale else { return Ok((refusal, Kind::Outside(apart.row))) };
-    let gale = (decide.gale)(input);
-    if gale == refusal {
-        return Ok((refusal, Kind::Same));
-    }
-    if !codes.contains(&gale.code) {
-        return Err(format!("{}: Gale decides {gale:?}", apart.row));
-    }
-    Ok((refusal, Kind::Differs(apart.row)))
-}
-
-/// Our function, of the same numbers.
-pub type Ours = fn(&[u32]) -> Result<Decision, String>;
-
-fn compare_decision(decide: &Decide, ours: Ours, input: &[u32]) -> Result<Kind, String> {
-    let (expected, kind) = expected_decision(decide, input)?;
-    let ours = ours(input)?;
-    if ours == expected {
-        return Ok(kind);
-    }
-    Err(format!("expected {expected:?}, ours {ours:?}"))
-}
-
-/// Holds our functions against those of Gale: on the edges, and about 2^31.
-pub fn compare_decides<const K: usize>(
-    report: &mut Report,
-    name: &'static str,
-    rows: &[&'static str],
-    decides: [(Decide, Ours); K],
-) {
-    let numbers: Vec<u32> = edges().chain([i32::MAX as u32, 1 << 31, (1 << 31) + 1]).collect();
-    report.run(name, rows, |tally| {
-        for (decide, ours) in &decides {
-            for input in decide.inputs(&numbers) {
-                let kind = compare_decision(decide, *ours, &input);
-                tally.count(kind.map_err(|why| format!("  {}{input:?}: {why}", decide.name))?);
-            }
-        }
-        Ok(())
-    });
 }

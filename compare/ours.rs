@@ -15,6 +15,8 @@ pub mod thread;
 pub mod wait_queue;
 
 use crate::answer::{Answer, Caller};
+use crate::decide::Decision;
+use lent::Cell;
 use std::fmt;
 
 pub const OK: i32 = 0;
@@ -141,4 +143,17 @@ fn with_room(room: usize, call: impl FnOnce(*mut u64, u64) -> i32) -> Result<Ans
         return Err(format!("answers {code} and writes past what it may, with room for {room}"));
     }
     Ok(Answer { code, woken: out[..count].iter().map(|&word| woken(word)).collect() })
+}
+
+/// Lends the words that a call writes if it does not refuse.
+fn decided<C: Cell, const K: usize>(call: impl FnOnce([*mut C; K]) -> i64) -> Result<Decision<C>, String> {
+    let mut out = [C::of(UNTOUCHED); K];
+    let code = call(out.each_mut().map(|word| word as *mut C));
+    if code >= 0 {
+        return Ok(Decision::new(code, &out));
+    }
+    if out != [C::of(UNTOUCHED); K] {
+        return Err(format!("answers {code} and writes {out:?}"));
+    }
+    Ok(Decision::new(code, &[]))
 }

@@ -1,6 +1,7 @@
 //! The memory slab. Gale counts blocks; here the elements that the object holds are the blocks that are out.
 
-use crate::lent::{compare_decides, Both, Moved, Object, Step, SHORT};
+use crate::decisions::compare_decides;
+use crate::lent::{Both, Moved, Object, Step, SHORT};
 use crate::lent_memory::{compare_any, compare_limits};
 use crate::ours::lent::{Memory, ROOM};
 use crate::ours::mem_slab::{self as ours, MemSlab};

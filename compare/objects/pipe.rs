@@ -1,6 +1,7 @@
 //! The pipe.
 
-use crate::lent::{around, compare_decides, Both, Moved, Object, Step, LONG, SHORT};
+use crate::decisions::compare_decides;
+use crate::lent::{around, Both, Moved, Object, Step, LONG, SHORT};
 use crate::lent_memory::{compare_any, compare_limits};
 use crate::objects::ring_buf::{self, draw_len, random_start, small_starts};
 use crate::ours::lent::{Memory, ROOM};

@@ -1,6 +1,7 @@
 //! The ring buffer.
 
-use crate::lent::{around, compare_decides, Both, Moved, Object, Step, LONG, SHORT};
+use crate::decisions::compare_decides;
+use crate::lent::{around, Both, Moved, Object, Step, LONG, SHORT};
 use crate::lent_memory::{compare_any, compare_limits};
 use crate::ours::lent::{Memory, ROOM};
 use crate::ours::ring_buf::{self as ours, RingBuf};

@@ -2,7 +2,6 @@
 
 use super::far::lengthy;
 use super::{GUARD, UNTOUCHED};
-use crate::decide::Decision;
 use std::fmt::Debug;
 
 /// Most elements that are lent, but for objects at the limits of their numbers.
@@ -175,17 +174,4 @@ pub fn with_room<C: Cell>(
         return Err(format!("answers {code} and writes more than that"));
     }
     Ok(Reply { code, out: out[..count].to_vec() })
-}
-
-/// Lends the words that a decide function writes.
-pub fn decided<const K: usize>(call: impl FnOnce([*mut u32; K]) -> i64) -> Result<Decision, String> {
-    let mut out = [UNTOUCHED as u32; K];
-    let code = call(out.each_mut().map(|word| word as *mut u32));
-    if code >= 0 {
-        return Ok(Decision::new(code, &out));
-    }
-    if out != [UNTOUCHED as u32; K] {
-        return Err(format!("answers {code} and writes {out:?}"));
-    }
-    Ok(Decision::new(code, &[]))
 }

@@ -1,6 +1,7 @@
 //! The memory slab.
 
-use super::lent::{decided, plain, Library, Parts, Reply};
+use super::decided;
+use super::lent::{plain, Library, Parts, Reply};
 use crate::decide::{words, Decision};
 use crate::upstream::mem_slab::Call;
 

@@ -1,6 +1,7 @@
 //! The stack.
 
-use super::lent::{decided, plain, with_room, Library, Parts, Reply};
+use super::decided;
+use super::lent::{plain, with_room, Library, Parts, Reply};
 use crate::decide::{words, Decision};
 use crate::upstream::stack::Call;
 

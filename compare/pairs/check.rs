@@ -1,6 +1,6 @@
 //! Asks both of a pair on every input, and finds each kind of disagreement with its smallest input.
 
-use crate::numbers::{edges, waiters};
+use crate::numbers::{self, edges, waiters};
 use std::any::Any;
 use std::cell::Cell;
 use std::cmp::Ordering;
@@ -59,7 +59,7 @@ pub fn waiting(name: &'static str) -> Arg {
 }
 
 pub fn ticks(name: &'static str) -> Arg {
-    Arg { name, values: (0..=5).chain([u64::MAX - 1, u64::MAX]).collect(), is_flag: false }
+    Arg { name, values: numbers::ticks().collect(), is_flag: false }
 }
 
 pub fn one_of(name: &'static str, values: &[u64]) -> Arg {
