@@ -10,6 +10,8 @@ mod numbers;
 mod objects {
     pub mod condvar;
     pub mod condvar_rules;
+    pub mod event;
+    pub mod event_rules;
     pub mod futex;
     pub mod futex_rules;
     pub mod mem_slab;
@@ -27,10 +29,15 @@ mod objects {
     pub mod stack;
     pub mod stack_rules;
     pub mod thread;
+    pub mod timeout;
+    pub mod timeout_rules;
+    pub mod timer;
+    pub mod timer_rules;
     pub mod wait_queue;
     pub mod wait_queue_rules;
 }
 mod ours;
+mod plain;
 mod queue;
 mod report;
 mod rng;
@@ -52,5 +59,8 @@ fn main() -> std::process::ExitCode {
     objects::pipe::compare(&mut report, SEED);
     objects::stack::compare(&mut report, SEED);
     objects::mem_slab::compare(&mut report, SEED);
+    objects::event::compare(&mut report, SEED);
+    objects::timer::compare(&mut report, SEED);
+    objects::timeout::compare(&mut report, SEED);
     report.finish()
 }

@@ -10,7 +10,7 @@ use crate::report::{Kind, Report};
 use crate::rng::Rng;
 use crate::upstream::Counts;
 
-const MALFORMED: &str = "a malformed object: -22";
+pub const MALFORMED: &str = "a malformed object: -22";
 
 /// The rules of an object of N header words.
 pub trait Rules<const N: usize>: Object<N> {

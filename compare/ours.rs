@@ -1,6 +1,7 @@
 //! The library under test: include/waitqueue.h, with the objects' memory between guards.
 
 pub mod condvar;
+pub mod event;
 pub mod far;
 pub mod futex;
 pub mod lent;
@@ -8,10 +9,13 @@ pub mod mem_slab;
 pub mod msgq;
 pub mod mutex;
 pub mod pipe;
+pub mod plain;
 pub mod ring_buf;
 pub mod sem;
 pub mod stack;
 pub mod thread;
+pub mod timeout;
+pub mod timer;
 pub mod wait_queue;
 
 use crate::answer::{Answer, Caller};

@@ -1,6 +1,7 @@
 //! Gale's Rust: its calls, when it forbids them, and its answers in the codes of the header.
 
 pub mod condvar;
+pub mod event;
 pub mod futex;
 pub mod mem_slab;
 pub mod msgq;
@@ -10,9 +11,12 @@ pub mod ring_buf;
 pub mod sem;
 pub mod stack;
 pub mod thread;
+pub mod timeout;
+pub mod timer;
 pub mod wait_queue;
 
 use crate::answer::Answer;
+use crate::decide::Decision;
 use std::fmt::Debug;
 
 /// An object of Gale that holds a wait queue.
@@ -36,6 +40,26 @@ pub trait Counts {
     /// What the functions answer that only read.
     fn numbers(&self) -> Vec<i64>;
     fn copy(&self) -> Self;
+}
+
+/// An object of Gale that is a few numbers, and nothing else.
+pub trait Plain: Copy {
+    type Word;
+    type Call: Copy + Debug + 'static;
+    /// The calls that only read and take nothing.
+    const READS: &'static [Self::Call];
+
+    /// Why Gale's precondition forbids the call, and what ours refuses it with.
+    fn outside(&self, _: Self::Call) -> Option<(&'static str, i32)> {
+        None
+    }
+
+    /// Why ours is not to do as Gale does, if what it answers is the same.
+    fn differs(_: Self::Call) -> Option<&'static str> {
+        None
+    }
+
+    fn call(&mut self, call: Self::Call) -> Decision<Self::Word>;
 }
 
 /// What an init answers that makes the object anew.
