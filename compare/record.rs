@@ -40,6 +40,10 @@ fn header(commit: &str) {
         "# Where something is put into a slot, got or peeked at, the answer is the slot. A free names a block by its"
     );
     println!("# place among those that are out. A decide function leaves the numbers that it writes.");
+    println!(
+        "# Event flags, a timer and a timeout hold what their functions answer or write that only read. Where another"
+    );
+    println!("# call on them writes a number, it stands behind the answer.");
     println!("# A line \"test\" begins one test, with new objects.");
 }
 
@@ -82,4 +86,7 @@ fn main() {
     sample::pipe::tests(&mut rng);
     sample::stack::tests(&mut rng);
     sample::mem_slab::tests(&mut rng);
+    sample::event::tests(&mut rng);
+    sample::timer::tests(&mut rng);
+    sample::timeout::tests(&mut rng);
 }

@@ -415,6 +415,10 @@ static const struct {
     {"ECANCELED", WQ_ECANCELED},
     {"MAX_PRIORITY", WQ_MAX_PRIORITY},
     {"MAX_WAITERS", WQ_MAX_WAITERS},
+    {"WAIT_ANY", WQ_WAIT_ANY},
+    {"WAIT_ALL", WQ_WAIT_ALL},
+    {"K_FOREVER_TICKS", (long long)WQ_K_FOREVER_TICKS},
+    {"K_NO_WAIT_TICKS", WQ_K_NO_WAIT_TICKS},
 };
 
 static const struct operation operations[] = {
@@ -480,10 +484,12 @@ static bool run(const char *name, const struct numbers *in, struct result *r)
             answer(r, constants[i].value);
             return true;
         }
-    return run_one(operations, name, in, r) || run_one(lent_operations, name, in, r);
+    return run_one(operations, name, in, r) || run_one(lent_operations, name, in, r) ||
+           run_one(plain_operations, name, in, r);
 }
 
-/* Reads numbers up to the given sign or the end of the line; false for anything else. */
+/* Reads numbers up to the given sign or the end of the line; false for anything else. One from 2^63 on is kept as the
+ * number with the same bits. */
 static bool read_numbers(char **text, char end, struct numbers *to)
 {
     for (;;) {
@@ -493,7 +499,7 @@ static bool read_numbers(char **text, char end, struct numbers *to)
             return true;
         }
         char *rest;
-        put(to, strtoll(*text, &rest, 10));
+        put(to, **text == '-' ? strtoll(*text, &rest, 10) : (long long)strtoull(*text, &rest, 10));
         if (rest == *text)
             return false;
         *text = rest;

@@ -24,7 +24,7 @@ struct operation {
     void (*replay)(const long long *in, struct result *r);
 };
 
-extern const struct operation lent_operations[];
+extern const struct operation lent_operations[], plain_operations[];
 
 static inline void put(struct numbers *to, long long v)
 {
@@ -33,5 +33,13 @@ static inline void put(struct numbers *to, long long v)
 }
 
 static inline void answer(struct result *r, long long v) { put(&r->answer, v); }
+
+/* A decide function that writes so many numbers, and none where it refuses. */
+static inline void decided(struct result *r, int32_t code, const uint32_t *numbers, int n)
+{
+    answer(r, code);
+    for (int i = 0; i < n && code >= 0; i++)
+        put(&r->after, numbers[i]);
+}
 
 #endif

@@ -225,14 +225,6 @@ static void msgq_purge(const long long *in, struct result *r)
     msgq_hold(r);
 }
 
-/* A decide function that writes so many numbers, and none where it refuses. */
-static void decided(struct result *r, int32_t code, const uint32_t *numbers, int n)
-{
-    answer(r, code);
-    for (int i = 0; i < n && code >= 0; i++)
-        put(&r->after, numbers[i]);
-}
-
 static void msgq_put_decide(const long long *in, struct result *r)
 {
     uint32_t new[2];

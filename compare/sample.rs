@@ -1,6 +1,7 @@
 //! The recorded sample: what its lines look like, and what the tests of all objects share.
 
 pub mod condvar;
+pub mod event;
 pub mod futex;
 pub mod mem_slab;
 pub mod msgq;
@@ -10,22 +11,27 @@ pub mod ring_buf;
 pub mod sem;
 pub mod stack;
 pub mod thread;
+pub mod timeout;
+pub mod timer;
 pub mod wait_queue;
 
 use crate::answer::{Answer, Caller};
-use crate::decide::Decide;
+use crate::decide::{Decide, Decision};
 use crate::rng::Rng;
 use crate::upstream::wait_queue::waiting;
-use crate::upstream::{Counts, Upstream};
+use crate::upstream::{Counts, Plain, Upstream};
 use gale::wait_queue::WaitQueue;
+use std::fmt::Display;
 
 const SEQUENCES: u32 = 20;
 const LENGTH: usize = 50;
 const EDGES: [u32; 6] = [0, 1, 2, 3, u32::MAX - 1, u32::MAX];
+/// Fewer, for functions of many numbers.
+const FEW: [u32; 4] = [0, 1, 2, u32::MAX];
 /// Numbers of threads that can wait.
 const WAITERS: [u32; 5] = [0, 1, 2, 63, 64];
 
-fn words(numbers: impl IntoIterator<Item = i64>) -> String {
+fn words(numbers: impl IntoIterator<Item = impl Display>) -> String {
     numbers.into_iter().map(|number| format!(" {number}")).collect()
 }
 
@@ -38,7 +44,7 @@ pub fn answered(operation: &str, inputs: &[i64], answer: i64) {
 }
 
 fn left(operation: &str, inputs: &[i64], answer: &Answer, after: impl IntoIterator<Item = i64>) {
-    let woken = answer.woken.iter().flat_map(|&(id, result)| [id.into(), result.into()]);
+    let woken = answer.woken.iter().flat_map(|&(id, result)| [i64::from(id), result.into()]);
     let inputs = words(inputs.iter().copied());
     println!("{operation}{inputs} = {}{} ;{}", answer.code, words(woken), words(after));
 }
@@ -92,37 +98,63 @@ fn record_counts<T: Tallied>(object: &mut T, call: T::Call) {
     println!("{operation}{} = {answer} ;{}", words(inputs), words(object.numbers()));
 }
 
+/// An object in the sample that is a few numbers.
+trait Small: Plain<Word: Display> {
+    /// The name of the operation, and its inputs.
+    fn words(call: Self::Call) -> (&'static str, Vec<Self::Word>);
+}
+
+/// The number that a call answers that only reads, or writes.
+fn number<W: Display>(read: Decision<W>) -> String {
+    read.numbers.first().map_or(read.code.to_string(), W::to_string)
+}
+
+/// Calls outside upstream's preconditions are left out.
+fn record_plain<T: Small>(object: &mut T, call: T::Call) {
+    if object.outside(call).is_some() {
+        return;
+    }
+    let (operation, inputs) = T::words(call);
+    let answer = object.call(call);
+    let holds = T::READS.iter().map(|&read| number(object.call(read)));
+    println!("{operation}{} = {}{} ;{}", words(inputs), answer.code, words(answer.numbers), words(holds));
+}
+
 /// Half as many as of an object with a queue. Each begins with an init.
+fn sequences_of<T, Call: Copy>(
+    name: &str,
+    rng: &mut Rng,
+    start: impl Fn(&mut Rng) -> (T, Call),
+    draw: impl Fn(&T, &mut Rng) -> Call,
+    record: fn(&mut T, Call),
+) {
+    for number in 1..=SEQUENCES / 2 {
+        test(&format!("{name}, sequence {number}"));
+        let (mut object, init) = start(rng);
+        record(&mut object, init);
+        for _ in 0..LENGTH {
+            let call = draw(&object, rng);
+            record(&mut object, call);
+        }
+    }
+}
+
 fn sequences<T: Tallied>(
     name: &str,
     rng: &mut Rng,
     start: impl Fn(&mut Rng) -> (T, T::Call),
     draw: impl Fn(&T, &mut Rng) -> T::Call,
 ) {
-    for number in 1..=SEQUENCES / 2 {
-        test(&format!("{name}, sequence {number}"));
-        let (mut object, init) = start(rng);
-        record_counts(&mut object, init);
-        for _ in 0..LENGTH {
-            let call = draw(&object, rng);
-            record_counts(&mut object, call);
-        }
-    }
+    sequences_of(name, rng, start, draw, record_counts);
 }
 
 /// Where ours does not decide as Gale does, nothing is recorded.
-fn decisions(name: &str, decides: &[Decide]) {
+fn decisions<W: Copy + From<bool> + Display>(name: &str, decides: &[Decide<W>], numbers: &[W]) {
     test(&format!("{name}, decide functions"));
     for decide in decides {
-        for input in decide.inputs(&[0, 1, 2, u32::MAX]).iter().filter(|input| (decide.apart)(input).is_none()) {
+        for input in decide.inputs(numbers).iter().filter(|input| (decide.apart)(input).is_none()) {
             let decision = (decide.gale)(input);
-            let inputs = words(input.iter().map(|&number| number.into()));
-            println!(
-                "{}{inputs} = {} ;{}",
-                decide.name,
-                decision.code,
-                words(decision.numbers.into_iter().map(i64::from))
-            );
+            println!("{}{} = {} ;{}", decide.name, words(input), decision.code, words(decision.numbers));
         }
     }
 }

@@ -1,7 +1,7 @@
 //! The memory slab. Gale does not know one block from another, so a free names one of those that are out by its place
 //! among them.
 
-use super::{decisions, sequences, Tallied};
+use super::{decisions, sequences, Tallied, FEW};
 use crate::rng::Rng;
 use crate::upstream::mem_slab::{Call, DECIDES};
 use gale::mem_slab::MemSlab;
@@ -23,7 +23,7 @@ fn draw(slab: &MemSlab, rng: &mut Rng) -> Call {
 }
 
 pub fn tests(rng: &mut Rng) {
-    decisions("memory slab", &DECIDES);
+    decisions("memory slab", &DECIDES, &FEW);
     let start = |rng: &mut Rng| {
         let num_blocks = rng.pick(&[1, 2, 3, 5, 16]);
         (MemSlab::init(1, 1).unwrap(), Call::Init { block_size: 16, num_blocks })

@@ -1,6 +1,6 @@
 //! The message queue. A message's length is ours only, so all have the right one.
 
-use super::{decisions, sequences, Tallied};
+use super::{decisions, sequences, Tallied, FEW};
 use crate::rng::Rng;
 use crate::upstream::msgq::{Call, DECIDES};
 use gale::msgq::MsgQ;
@@ -33,7 +33,7 @@ fn draw(queue: &MsgQ, rng: &mut Rng) -> Call {
 }
 
 pub fn tests(rng: &mut Rng) {
-    decisions("message queue", &DECIDES);
+    decisions("message queue", &DECIDES, &FEW);
     let start = |rng: &mut Rng| {
         let (msg_size, max_msgs) = (rng.pick(&[1, 3, 8]), rng.pick(&[1, 2, 3, 8]));
         (MsgQ::init(1, 1).unwrap(), Call::Init { msg_size, max_msgs })

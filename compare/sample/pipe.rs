@@ -1,6 +1,6 @@
 //! The pipe.
 
-use super::{decisions, sequences, Tallied};
+use super::{decisions, sequences, Tallied, FEW};
 use crate::rng::Rng;
 use crate::upstream::pipe::{Call, PipeAndRing, DECIDES};
 
@@ -25,7 +25,7 @@ fn draw(_: &PipeAndRing, rng: &mut Rng) -> Call {
 }
 
 pub fn tests(rng: &mut Rng) {
-    decisions("pipe", &DECIDES);
+    decisions("pipe", &DECIDES, &FEW);
     let start = |rng: &mut Rng| (PipeAndRing::init(1).unwrap(), Call::Init(rng.pick(&[1, 2, 3, 5, 16])));
     sequences("pipe", rng, start, draw);
 }

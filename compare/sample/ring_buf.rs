@@ -1,6 +1,6 @@
 //! The ring buffer.
 
-use super::{decisions, sequences, Tallied};
+use super::{decisions, sequences, Tallied, FEW};
 use crate::rng::Rng;
 use crate::upstream::ring_buf::{Call, DECIDES};
 use gale::ring_buf::RingBuf;
@@ -34,7 +34,7 @@ fn draw(_: &RingBuf, rng: &mut Rng) -> Call {
 }
 
 pub fn tests(rng: &mut Rng) {
-    decisions("ring buffer", &DECIDES);
+    decisions("ring buffer", &DECIDES, &FEW);
     let start = |rng: &mut Rng| (RingBuf::init(1).unwrap(), Call::Init(rng.pick(&[1, 2, 3, 5, 16])));
     sequences("ring buffer", rng, start, draw);
 }

@@ -1,6 +1,6 @@
 //! The stack.
 
-use super::{decisions, sequences, Tallied};
+use super::{decisions, sequences, Tallied, FEW};
 use crate::rng::Rng;
 use crate::upstream::stack::{Call, DECIDES};
 use gale::stack::Stack;
@@ -21,7 +21,7 @@ fn draw(_: &Stack, rng: &mut Rng) -> Call {
 }
 
 pub fn tests(rng: &mut Rng) {
-    decisions("stack", &DECIDES);
+    decisions("stack", &DECIDES, &FEW);
     let start = |rng: &mut Rng| (Stack::init(1).unwrap(), Call::Init(rng.pick(&[1, 2, 3, 5, 16])));
     sequences("stack", rng, start, draw);
 }
