@@ -5,14 +5,14 @@ use Prim.Native.Nat.{ℕ, _≤_, _<_}
 use native.Mathlib.Omega.{arith}
 use borrow.Author.Tests.{leb-true}
 use lib.Dec.{eqb, leb}
-use Rattle.seq.specs.Bits.{bit, Somewhere}
+use Rattle.seq.specs.Bits.{bit}
 use Rattle.seq.proofs.Bits.{bit-bits, by-bits}
 use Rattle.seq.proofs.Masks.{bit-none}
 use Rattle.seq.proofs.Order.{clash}
 use Rattle.seq.proofs.Tests.{any-found, found-any, none-any, all-each, each-all, has-bit}
 use Rattle.thread.specs.Code.{ebusy, einval}
-use Rattle.store.specs.Store.{Reply, refuse, accept, answer}
-use Rattle.event.specs.Event.{width, posted, cleared, anyThere, allThere, matching, met, matched, pends, waits}
+use Rattle.store.specs.Store.{refuse, accept, answer}
+use Rattle.event.specs.Event.{width, posted, cleared, anyThere, allThere, matching, met, matched, pends}
 use Rattle.event.specs.Waiting.{Conditions, Decides, None, Calls}
 use Rattle.event.proofs.Answers.{met-now, wait-busy, wait-pends}
 

@@ -2,11 +2,10 @@
 use mathlib.Core.Path.{_≡_, refl, sym, ap, ap₂, _∙_}
 use mathlib.Core.Bool.{Bool, true, false, cond, not, _&&_, _||_}
 use Prim.Native.Nat.{ℕ, _-_, _<_}
-use borrow.Author.Tests.{not-true, not-false}
 use lib.Bits.{bitAnd, bitOr, and-lt, or-lt}
 use lib.Dec.{eqb}
 use lib.Pow.{ones-sub-lt}
-use Rattle.seq.specs.Bits.{bit, bits}
+use Rattle.seq.specs.Bits.{bit}
 use Rattle.seq.proofs.Bits.{bits-of, by-bits}
 use Rattle.seq.proofs.Masks.{bit-and, bit-or, bit-not}
 use Rattle.seq.proofs.Tests.{bits-zero, bits-all}

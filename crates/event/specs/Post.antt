@@ -1,5 +1,4 @@
 -- The flags in memory: h = the word of flags, and no buffer. Every word is fine.
-use mathlib.Core.List.{List}
 use Prim.Native.Nat.{ℕ}
 use lib.Dec.{leb}
 use lib.ListN.{length, getD}

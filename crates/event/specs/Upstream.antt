@@ -1,7 +1,7 @@
 -- The contracts of Gale's event.rs, in our words: e is the flags before a call, e' after it, r its answer; & is bitAnd, | is bitOr.
 -- Upstream's text stands above each field.
 use mathlib.Core.Path.{_≡_}
-use mathlib.Core.Bool.{Bool, true}
+use mathlib.Core.Bool.{true}
 use Prim.Native.Nat.{ℕ, _-_, _<_}
 use lib.Bits.{bitAnd, bitOr}
 use lib.IntN.{ℤ, pos}

@@ -6,11 +6,11 @@ use native.Mathlib.Omega.{arith}
 use borrow.Author.Tests.{lt-ltb, le-ltb, eq-eqb}
 use lib.ListN.{length, length-append, length-drop}
 use Rattle.thread.specs.Code.{ok, enomsg}
-use Rattle.store.specs.Store.{Reply, accept, refuse}
+use Rattle.store.specs.Store.{Reply, accept, refuse, left}
 use Rattle.ring_buf.specs.Ring.{wrap, append, lead, leave}
 use Rattle.ring_buf.proofs.Rings.{by-lt, wrap-low, wrap-high, wrap-wrap}
 use Rattle.msgq.specs.Msgq.{Msgq, having, max, used, readIdx, writeIdx, put, putFront, get}
-use Rattle.msgq.specs.History.{left, Good}
+use Rattle.msgq.specs.History.{Good}
 use Rattle.msgq.specs.HandOver.{stored, read}
 
 module _ (c z : ℕ) (q : Msgq) (g : Good c z q) where

@@ -9,13 +9,13 @@ use lib.IntN.{ℤ, pos, negsuc}
 use Rattle.seq.specs.List.{All}
 use Rattle.seq.proofs.Order.{clash}
 use Rattle.thread.specs.Code.{ok}
-use Rattle.store.specs.Store.{Reply, refuse, accept, answer, After, Did, handed, Started}
+use Rattle.store.specs.Store.{Reply, refuse, accept, answer, After, Did, handed, Started, left}
 use Rattle.store.proofs.Laws.{replies, answers, handed-is}
 use Rattle.ring_buf.proofs.Rings.{wrap-below, length-turn}
 use Rattle.msgq.specs.Messages.{slots}
 use Rattle.msgq.specs.Msgq.{Msgq, max}
 use Rattle.msgq.specs.Post.{messages, new, may}
-use Rattle.msgq.specs.History.{Call, put, putFront, get, purge, does, out, left, Log, nothing, note, State, next, run, Good, Promise, simple, Fifo, Made, none-made, made, at, Kept}
+use Rattle.msgq.specs.History.{Call, put, putFront, get, purge, does, out, Log, nothing, note, State, next, run, Good, Promise, simple, Fifo, Made, none-made, made, at, Kept}
 use Rattle.msgq.proofs.Slots.{length-slots}
 use Rattle.msgq.proofs.Headers.{from-sound}
 use Rattle.msgq.proofs.Steps.{step}

@@ -7,11 +7,11 @@ use native.Mathlib.Numerals.{add-one}
 use borrow.Author.Tests.{lt-ltb, le-ltb, eq-eqb, ne-eqb}
 use lib.ListN.{length, length-append, length-drop}
 use Rattle.thread.specs.Code.{ok}
-use Rattle.store.specs.Store.{Reply, answer}
+use Rattle.store.specs.Store.{Reply, answer, left}
 use Rattle.ring_buf.specs.Ring.{wrap, append, lead, leave}
 use Rattle.ring_buf.proofs.Rings.{by-lt, wrap-low, wrap-high}
 use Rattle.msgq.specs.Msgq.{Msgq, having, max, used, readIdx, writeIdx, put, putFront, get, peek, purge}
-use Rattle.msgq.specs.History.{left, Good}
+use Rattle.msgq.specs.History.{Good}
 use Rattle.msgq.specs.Upstream.{nextIdx, prevIdx, InvOf, PutDone, Put, FrontDone, PutFront, GetDone, Get, PeekAt, Purge}
 use Rattle.msgq.proofs.Calls.{put-yes, put-no, front-yes, front-no, get-yes, get-no, write-next, write-led, write-left}
 use Rattle.msgq.proofs.Steps.{good-put, good-front, good-leave}

@@ -9,13 +9,13 @@ use lib.Seq.{append-snoc}
 use lib.ListN.{length, length-append, length-drop, replicate}
 use Rattle.seq.specs.List.{All}
 use Rattle.thread.specs.Code.{ok}
-use Rattle.store.specs.Store.{Reply, accept, answer}
+use Rattle.store.specs.Store.{Reply, accept, answer, left}
 use Rattle.ring_buf.specs.Ring.{wrap, append, leave}
 use Rattle.ring_buf.proofs.Rings.{wrap-low}
 use Rattle.msgq.specs.Msgq.{Msgq, having, max, used, readIdx, writeIdx}
 use Rattle.msgq.specs.Post.{new}
 use Rattle.msgq.specs.Msgq as queue
-use Rattle.msgq.specs.History.{Call, put, get, out, left, note, simple, nothing, State, next, run, Good, Promise}
+use Rattle.msgq.specs.History.{Call, put, get, out, note, simple, nothing, State, next, run, Good, Promise}
 use Rattle.msgq.specs.HandOver.{stored, read}
 use Rattle.msgq.specs.Upstream.{Inductive, Roundtrip, drained, FillDrain}
 use Rattle.msgq.proofs.Calls.{put-yes, get-yes, stores, reads, write-next, write-left}

@@ -10,11 +10,11 @@ use lib.ListN.{length, getD, length-append, length-take, length-drop}
 use Rattle.seq.specs.List.{All}
 use Rattle.seq.proofs.Sub.{sub-drop, sub-holds}
 use Rattle.thread.specs.Code.{ok, enomsg}
-use Rattle.store.specs.Store.{Reply, refuse, accept, answer, carry}
+use Rattle.store.specs.Store.{Reply, refuse, accept, answer, carry, left}
 use Rattle.ring_buf.specs.Ring.{Ring, wrap, append, lead, leave}
 use Rattle.ring_buf.proofs.Rings.{wrap-below}
 use Rattle.msgq.specs.Msgq.{Msgq, Numbers, counts, having, max, used, readIdx, writeIdx, given}
-use Rattle.msgq.specs.History.{Call, put, putFront, get, purge, does, out, left, noted, note, State, next, Good, Promise}
+use Rattle.msgq.specs.History.{Call, put, putFront, get, purge, does, out, noted, note, State, next, Good, Promise}
 use Rattle.msgq.proofs.Lines.{line-put, line-front, line-get, line-purge}
 
 pub all-append : {A : Type 0} (P : A → Type 0) (l k : List A) → All P l → All P k → All P (l ++ k)

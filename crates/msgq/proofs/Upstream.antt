@@ -8,12 +8,12 @@ use borrow.Author.Tests.{eq-eqb}
 use lib.IntN.{ℤ}
 use lib.ListN.{length, getD, length-append, drop-of-length-le}
 use lib.Seq.{getD-append-seam}
-use Rattle.store.specs.Store.{Reply, answer, reply, Did, handed, Filled}
+use Rattle.store.specs.Store.{Reply, answer, reply, Did, handed, Filled, left}
 use Rattle.store.proofs.Laws.{answers, replies}
 use Rattle.ring_buf.specs.Ring.{wrap, append, lead}
 use Rattle.msgq.specs.Msgq.{Msgq, having, max, used, readIdx, writeIdx, put, putFront, get, peek, seen, purge}
 use Rattle.msgq.specs.Post.{sound, held, messages}
-use Rattle.msgq.specs.History.{Call, does, left, Good}
+use Rattle.msgq.specs.History.{Call, does, Good}
 use Rattle.msgq.specs.History as calls
 use Rattle.msgq.specs.Upstream.{Inv, Housed, Put, PutFront, Get, InSlot, PeekAt, Purge}
 use Rattle.msgq.proofs.Calls.{stores, front-yes}

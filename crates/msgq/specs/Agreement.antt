@@ -5,10 +5,10 @@ use mathlib.Core.Bool.{true, false}
 use mathlib.Core.List.{List}
 use Prim.Native.Nat.{ℕ}
 use lib.ListN.{length}
-use Rattle.store.specs.Store.{Reply, answer}
+use Rattle.store.specs.Store.{Reply, answer, left}
 use Rattle.msgq.specs.Msgq.{Msgq, Numbers, max, used, readIdx, writeIdx, put, putFront, get, peek}
 use Rattle.msgq.specs.Post.{putDecision, getDecision, putFrontDecision, peekDecision, Decided}
-use Rattle.msgq.specs.History.{left}
+use Rattle.msgq.specs.History.{}
 
 -- the reply y is the decision d of a queue q, whose index is i
 abbrev pub By : Reply Msgq → Msgq → (Msgq → ℕ) → Reply Numbers → Type 0

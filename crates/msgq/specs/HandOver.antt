@@ -9,10 +9,10 @@ use lib.IntN.{ℤ, pos, negsuc}
 use lib.ListN.{length, drop, getD}
 use Rattle.seq.specs.List.{any, All}
 use Rattle.thread.specs.Code.{einval}
-use Rattle.store.specs.Store.{Reply, accept, refuse, answer}
+use Rattle.store.specs.Store.{Reply, accept, refuse, answer, left}
 use Rattle.msgq.specs.Msgq.{Msgq, Numbers, counts, wakesReader, wakesWriter, max, used, readIdx, writeIdx, put, get}
 use Rattle.msgq.specs.Post.{putDecision, getDecision}
-use Rattle.msgq.specs.History.{left, Good}
+use Rattle.msgq.specs.History.{Good}
 
 pub record Waited : Type 0 where
   pub queue : Msgq

@@ -6,7 +6,7 @@ use Prim.Native.Nat.{ℕ, _+_, _<_}
 use lib.IntN.{ℤ, pos, negsuc}
 use lib.ListN.{length, take, drop}
 use Rattle.seq.specs.List.{All}
-use Rattle.store.specs.Store.{Reply, refuse, accept, answer, Did, handed}
+use Rattle.store.specs.Store.{Reply, answer, Did, handed, left}
 use Rattle.msgq.specs.Msgq.{Msgq, max, used, readIdx, writeIdx, seen}
 use Rattle.msgq.specs.Msgq as queue
 use Rattle.msgq.specs.Post.{messages}
@@ -30,11 +30,6 @@ out (put m) q = []
 out (putFront m) q = []
 out (get n) q = seen n 0 q
 out purge q = []
-
--- what a reply leaves of q
-abbrev pub left : Reply Msgq → Msgq → Msgq
-left (refuse r) q = q
-left (accept q' r) q = q'
 
 -- what one can write down who sees the calls, their answers and what they hand out, and not the queue
 pub record Log : Type 0 where

@@ -9,7 +9,7 @@ use lib.IntN.{ℤ, pos}
 use lib.ListN.{length, take, getD, set}
 use lib.Seq.{take-all}
 use Rattle.thread.specs.Code.{ok, einval, eagain, epipe, enomsg, ecanceled}
-use Rattle.store.specs.Store.{refuse, accept, answer, carry, Becomes, Did, looks, handed, Started}
+use Rattle.store.specs.Store.{refuse, accept, carry, Becomes, Did, looks, handed, Started}
 use Rattle.store.proofs.Laws.{did-no, did-yes, became, looks-is, handed-is, start-short, start-bad, start-made}
 use Rattle.ring_buf.specs.Ring.{Ring, append, leave, clear}
 use Rattle.ring_buf.specs.Bytes.{sound, held, bytes, new as newRing, may, putMany, getMany, gotten, reset as resetRing}

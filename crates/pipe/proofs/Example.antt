@@ -6,14 +6,14 @@ use Prim.Native.Nat.{ℕ}
 use native.Mathlib.Omega.{arith}
 use lib.IntN.{pos}
 use Rattle.thread.specs.Code.{ok, einval, eagain, epipe, enomsg, ecanceled}
-use Rattle.store.specs.Store.{refuse, accept, answer, reply, Started}
+use Rattle.store.specs.Store.{refuse, accept, answer, reply, Started, left}
 use Rattle.ring_buf.specs.Ring.{wrap, turn}
 use Rattle.ring_buf.specs.Bytes.{may}
-use Rattle.pipe.specs.Pipe.{Pipe, write, read, taken, reset}
+use Rattle.pipe.specs.Pipe.{Pipe, write, read, taken}
 use Rattle.pipe.specs.Post.{layout, new, wakes, pends, writeDecision, readDecision}
 use Rattle.pipe.specs.History.{Call, writes, reads, resets, closes, clears, does, Event, Runs, stop, call, account, nothing}
 use Rattle.pipe.specs.HandOver.{flags}
-use Rattle.pipe.proofs.Histories.{left}
+use Rattle.pipe.proofs.Histories.{}
 
 abbrev after : List Call → Pipe → Pipe
 after [] p = p

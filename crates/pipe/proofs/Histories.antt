@@ -2,30 +2,26 @@
 use mathlib.Core.Path.{_≡_, refl, sym, ap, subst, _∙_}
 use mathlib.Core.Bool.{Bool, true, false}
 use mathlib.Core.List.{List, [], _++_, append-assoc, append-nil}
-use Prim.Native.Nat.{ℕ, _+_, _-_, _<_, min}
+use Prim.Native.Nat.{ℕ, _-_, _<_, min}
 use native.Mathlib.Omega.{arith}
 use borrow.Author.Tests.{ne-eqb, lt-ltb}
 use lib.IntN.{ℤ, pos, negsuc}
 use lib.ListN.{length, take, drop, take-append-drop}
 use Rattle.seq.specs.List.{All}
 use Rattle.thread.specs.Code.{ok, ecanceled}
-use Rattle.store.specs.Store.{Reply, refuse, accept, answer, reply, After, Did, handed, Started}
+use Rattle.store.specs.Store.{Reply, refuse, accept, answer, After, Did, handed, Started, left}
 use Rattle.store.proofs.Laws.{replies, handed-is}
 use Rattle.ring_buf.specs.Ring.{append, leave}
 use Rattle.ring_buf.proofs.Answers.{held-is, spare-is}
 use Rattle.ring_buf.specs.Bytes.{may}
 use Rattle.pipe.specs.Pipe.{Pipe, Verdict, never, later, move, moved, done, holding, toWrite, toRead, write, read}
 use Rattle.pipe.specs.Post.{formed, object, layout, new}
-use Rattle.pipe.specs.History.{Call, writes, reads, resets, closes, clears, does, gives, Event, Runs, stop, call, Account, seen, account, nothing, Promise, unwritten, Closed, Readable, Ends, cancelled, Cancelled}
+use Rattle.pipe.specs.History.{Call, writes, reads, resets, closes, clears, does, gives, Event, Runs, stop, call, Account, seen, account, Promise, unwritten, Closed, Readable, Ends, cancelled, Cancelled}
 use Rattle.pipe.proofs.Verdicts.{Within, write-within}
 use Rattle.pipe.proofs.Headers.{from-formed}
 use Rattle.pipe.proofs.Answers.{take-least}
 
 -- the pipe after a reply
-abbrev pub left : Reply Pipe → Pipe → Pipe
-left (refuse c) p = p
-left (accept q r) p = q
-
 -- ---- one call
 
 abbrev Lined : Account → Pipe → Type 0

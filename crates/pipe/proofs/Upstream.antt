@@ -10,19 +10,19 @@ use lib.IntN.{ℤ, pos, negsuc}
 use lib.ListN.{length, take, getD, length-append, length-take, length-drop}
 use Rattle.seq.specs.List.{any}
 use Rattle.thread.specs.Code.{ok, einval}
-use Rattle.store.specs.Store.{accept, answer, Did, looks, handed, Started}
+use Rattle.store.specs.Store.{accept, answer, Did, looks, handed, Started, left}
 use Rattle.store.proofs.Laws.{looks-is, looks-bad}
 use Rattle.ring_buf.specs.Ring.{append, leave}
 use Rattle.ring_buf.specs.Bytes.{may}
 use Rattle.ring_buf.proofs.Answers.{held-is, spare-is}
-use Rattle.pipe.specs.Pipe.{Pipe, Verdict, never, later, move, writes, reads, done, holding, toWrite, toRead, write, read, reset, close, clearReset}
+use Rattle.pipe.specs.Pipe.{Pipe, Verdict, never, later, move, done, holding, toWrite, toRead, write, read, reset, close, clearReset}
 use Rattle.pipe.specs.Post.{formed, object, layout, new, size as sizeOf, data-held, space, isEmpty, isFull, flag, goes, proper, writeDecision, readDecision, Decided}
 use Rattle.pipe.specs.History.{Call, writes as writesCall, reads as readsCall, resets, closes, clears, does, gives, Event, Runs}
 use Rattle.pipe.specs.HandOver.{used, flags}
 use Rattle.pipe.specs.Upstream.{size, Inv, Err, Init, WriteCheck, ReadCheck, Reset, Close, ClearReset, SpaceGet, DataGet, IsEmpty, IsFull, IsOpen, IsResetting, SizeGet, WriteDecide, ReadDecide, Roundtrip, Conservation, ResetEmpties, CloseClears}
 use Rattle.pipe.proofs.Verdicts.{Within, write-within, read-within, who-waits, write-is, read-is, write-moves, read-moves}
 use Rattle.pipe.proofs.Headers.{Formed, from-formed}
-use Rattle.pipe.proofs.Histories.{left, sized, Step, step, promise}
+use Rattle.pipe.proofs.Histories.{sized, Step, step, promise}
 
 no-number : {c n : ℕ} → negsuc c ≡ pos n → ⊥
 no-number e = let y : _≡_ {A = ℕ} 0 1 = cc in omega arith

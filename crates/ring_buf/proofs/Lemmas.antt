@@ -12,6 +12,7 @@ use lib.Dec.{leb}
 use lib.IntN.{pos}
 use lib.Signed.{mag}
 use lib.ListN.{length, drop, length-append}
+use Rattle.store.specs.Store.{left}
 use Rattle.ring_buf.specs.Ring.{Ring, wrap}
 use Rattle.ring_buf.specs.Bytes.{new}
 use Rattle.ring_buf.specs.Counters.{difference, offset, claimed, finishes, room, amount}

@@ -236,22 +236,3 @@ module _ {A : Type 0} where
         let y : turn 0 b ≡ turn (c - t) (take u (turn t b) ++ drop u (turn t b)) =
         sym (ap (turn (c - t)) (take-append-drop u (turn t b)) ∙ turn-turn t (c - t) b (omega arith) (omega arith) ∙ ap (λ (x : ℕ). turn x b) z) in
         λ i. record { capacity = c; start = 0; held = []; spare = y i }
-
-  -- the same of a whole buffer
-  module _ (t u : ℕ) (b : List A) (h : t < length b) (room : u ≤ length b) where
-    pub length-held : length (take u (turn t b)) ≡ u
-    length-held = held-long (length b) t u b refl h room
-
-    pub length-spare : length (drop u (turn t b)) ≡ length b - u
-    length-spare = spare-long (length b) t u b refl h room
-
-  pub ring-append : (t u k : ℕ) (b b' s : List A) → t < length b → u + k ≤ length b → k ≤ length s → turn t b' ≡ paste (turn t b) u s k
-      → ring (length b) t (u + k) b' ≡ append (take k s) (ring (length b) t u b)
-  ring-append t u k b b' s h room have e = appended (length b) t u b refl h (omega arith) k b' s room have e
-
-  pub ring-leave : (t u k : ℕ) (b : List A) → t < length b → u ≤ length b → k ≤ u → ring (length b) (wrap (t + k) (length b)) (u - k) b ≡ leave k (ring (length b) t u b)
-  ring-leave t u k b h room have = left (length b) t u b refl h room k have
-
-  pub ring-lead : (t u : ℕ) (x : A) (b : List A) → t < length b → u < length b
-      → let p = wrap (t + (length b - 1)) (length b) in ring (length b) p (suc u) (paste b p (x ∷ []) 1) ≡ lead x (ring (length b) t u b)
-  ring-lead t u x b h room = led (length b) t u b refl h (omega arith) x room

@@ -9,9 +9,9 @@ use lib.IntN.{negsuc}
 use lib.Seq.{length-take-le}
 use lib.ListN.{length, take, length-append, length-drop}
 use Rattle.thread.specs.Code.{ok}
-use Rattle.store.specs.Store.{Reply, answer}
+use Rattle.store.specs.Store.{Reply, answer, left}
 use Rattle.stack.specs.Stack.{Stack, pop, popped, fresh, may}
-use Rattle.stack.specs.History.{Call, pushing, does, left, after, depth, Stands, Lies, pushed, stayed, Promise}
+use Rattle.stack.specs.History.{Call, pushing, does, after, depth, Stands, Lies, pushed, stayed, Promise}
 use Rattle.stack.proofs.Memory.{may-is}
 use Rattle.stack.proofs.Calls.{mk, push-some, pop-some, Does, stores, no-room, takes, nothing, which}
 

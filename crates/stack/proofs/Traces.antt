@@ -9,11 +9,11 @@ use lib.ListN.{length, getD}
 use Rattle.seq.specs.List.{back}
 use Rattle.seq.proofs.Back.{back-length}
 use Rattle.thread.specs.Code.{ok}
-use Rattle.store.specs.Store.{Reply, refuse, accept, After, Did, Started}
+use Rattle.store.specs.Store.{Reply, refuse, accept, After, Did, Started, left}
 use Rattle.store.proofs.Laws.{replies}
 use Rattle.stack.specs.Stack.{Stack, fresh, may}
 use Rattle.stack.specs.Post.{place}
-use Rattle.stack.specs.History.{Call, does, left, next, after, Stands, Made, begun, made, Kept}
+use Rattle.stack.specs.History.{Call, does, next, after, Stands, Made, begun, made, Kept}
 
 -- one call
 leaves : (y : Reply Stack) (h w h' w' : List ℕ) → place .formed h w ≡ true → After place y h w h' w'

@@ -8,11 +8,11 @@ use lib.IntN.{ℤ}
 use lib.ListN.{length, getD, take}
 use Rattle.seq.proofs.Back.{back-length}
 use Rattle.thread.specs.Code.{enomem, ebusy, einval}
-use Rattle.store.specs.Store.{Reply, answer, Did, handed, first}
+use Rattle.store.specs.Store.{Reply, answer, Did, handed, first, left}
 use Rattle.store.proofs.Laws.{answers, kept-bad, kept-no, handed-is}
 use Rattle.stack.specs.Stack.{Stack, push, pop, popped, full}
 use Rattle.stack.specs.Post.{place}
-use Rattle.stack.specs.History.{Call, pushing, popping, does, left, next, depth}
+use Rattle.stack.specs.History.{Call, pushing, popping, does, next, depth}
 use Rattle.stack.specs.Upstream.{Inv, Housed, Push, Pop, Stored, Taken}
 use Rattle.stack.proofs.Memory.{is-sound, formed}
 use Rattle.stack.proofs.Calls.{mk, push-some, push-none, pop-some, Does, stores, no-room, takes, nothing, which}

@@ -6,7 +6,7 @@ use Prim.Native.Nat.{ℕ, suc, _+_, _-_, _≤_, _<_}
 use lib.IntN.{ℤ, negsuc}
 use lib.ListN.{length, getD}
 use Rattle.thread.specs.Code.{ok}
-use Rattle.store.specs.Store.{Reply, refuse, accept, answer, Did}
+use Rattle.store.specs.Store.{Reply, answer, Did, left}
 use Rattle.stack.specs.Stack.{Stack, push, pop, popped}
 use Rattle.stack.specs.Post.{place}
 
@@ -17,11 +17,6 @@ pub data Call : Type 0 where
 abbrev pub does : Call → Stack → Reply Stack
 does (pushing x) s = push x s
 does popping s = pop s
-
--- what a reply leaves of s
-abbrev pub left : Reply Stack → Stack → Stack
-left (refuse r) s = s
-left (accept t r) s = t
 
 abbrev pub next : Stack → Call → Stack
 next s k = left (does k s) s
