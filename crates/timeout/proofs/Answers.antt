@@ -1,5 +1,5 @@
 -- How each answer of a function meets the timeout's definition. Assumes nothing.
-use mathlib.Core.Path.{_≡_, refl, sym, ap, _∙_}
+use mathlib.Core.Path.{_≡_, refl}
 use mathlib.Core.Bool.{Bool, true, false, cond}
 use mathlib.Core.List.{List, [], _∷_}
 use mathlib.Core.Logic.{_⊎_, inl, inr}
@@ -8,8 +8,7 @@ use native.Mathlib.Omega.{arith}
 use lib.Dec.{eqb, ltb, leb}
 use lib.IntN.{ℤ, pos}
 use lib.ListN.{length, getD, set}
-use borrow.Author.Tests.{ltb-true, leb-true, eqb-true, lt-ltb, le-ltb, le-leb, lt-leb, eq-eqb, ne-eqb}
-use Rattle.seq.proofs.Order.{clash}
+use borrow.Author.Tests.{ltb-true, leb-true, eqb-true, lt-ltb, le-ltb, le-leb}
 use Rattle.thread.specs.Code.{ok, ebusy, einval}
 use Rattle.store.specs.Store.{Reply, refuse, accept, settled, reply, Becomes, Did, looks, Started}
 use Rattle.store.proofs.Laws.{both-true, did-no, did-yes, replies, replies-bad, start-short, start-bad, start-made}
@@ -17,7 +16,7 @@ use Rattle.store.proofs.Histories.{three}
 use Rattle.timeout.specs.Timeout.{Timeout, timeout, never, fires, right, addDecide, add, abort, announce, until, remaining, expires, fresh, may}
 use Rattle.timeout.specs.Timeout as timeouts
 use Rattle.timeout.specs.Post.{place, asked}
-use Rattle.timeout.proofs.Numbers.{in-time, fires-idle, fires-early, fires-due, right-idle, right-ahead, announces-none, announces-quiet, announces-fires}
+use Rattle.timeout.proofs.Numbers.{in-time, fires-idle, fires-early, fires-due, right-idle, right-ahead, set-busy, set-no, set-is, abort-no, abort-is, announce-late, announce-quiet, announce-rings}
 
 -- what a header that is as it should be shows
 pub record Sound (h : List ℕ) : Type 0 where
@@ -121,14 +120,14 @@ module _ (h : List ℕ) (s : place .formed h [] ≡ true) where
   -- the deadline y is decided for a timeout that is active, and for one that is not
   module _ (y : Timeout → Reply ℕ) where
     pub is-busy : 0 < getD h 1 0 → timeouts.set (y (place .object h [])) (place .object h []) ≡ refuse ebusy
-    is-busy k = rw (lt-ltb 0 (getD h 1 0) k)
+    is-busy k = set-busy (getD h 0 0) (getD h 1 0) (getD h 2 0) (y (place .object h [])) k
 
     pub is-refused : getD h 1 0 ≡ 0 → y (place .object h []) ≡ refuse einval → timeouts.set (y (place .object h [])) (place .object h []) ≡ refuse einval
-    is-refused k e = rw (le-ltb 0 (getD h 1 0) (omega arith), e)
+    is-refused k e = set-no (getD h 0 0) (getD h 1 0) (getD h 2 0) (y (place .object h [])) k e
 
     pub is-set : getD h 1 0 ≡ 0 → {d : ℕ} → y (place .object h []) ≡ accept d ok
         → timeouts.set (y (place .object h [])) (place .object h []) ≡ accept (timeout d 1 (getD h 2 0)) ok
-    is-set k e = rw (le-ltb 0 (getD h 1 0) (omega arith), e)
+    is-set k e = set-is (getD h 0 0) (getD h 1 0) (getD h 2 0) (y (place .object h [])) k e
 
     pub busy : 0 < getD h 1 0 → Did place (λ t. timeouts.set (y t) t) h [] ebusy h []
     busy k = did-no place (λ t. timeouts.set (y t) t) h [] s (is-busy k)
@@ -149,11 +148,11 @@ module _ (h : List ℕ) (s : place .formed h [] ≡ true) where
       )
 
   pub abort-none : getD h 1 0 ≡ 0 → Did place abort h [] einval h []
-  abort-none k = did-no place abort h [] s (rw (le-ltb 0 (getD h 1 0) (omega arith)))
+  abort-none k = did-no place abort h [] s (abort-no (getD h 0 0) (getD h 1 0) (getD h 2 0) k)
 
   pub aborted : 0 < getD h 1 0 → Did place abort h [] ok (set h 1 0) []
   aborted k =
-      did-yes place abort h [] s (rw (lt-ltb 0 (getD h 1 0) k))
+      did-yes place abort h [] s (abort-is (getD h 0 0) (getD h 1 0) (getD h 2 0) k)
       (wrote-active h (sound h s .words) 0 (right-idle (getD h 0 0) (getD h 2 0) (sound h s .below) false refl))
 
   module _ (n : ℕ) where
@@ -161,12 +160,12 @@ module _ (h : List ℕ) (s : place .formed h [] ≡ true) where
     on = ltb 0 (getD h 1 0)
 
     pub announce-none : never - getD h 2 0 ≤ n → Did place (announce n) h [] einval h []
-    announce-none k = did-no place (announce n) h [] s (rw (announces-none on (getD h 0 0) (getD h 2 0) n k))
+    announce-none k = did-no place (announce n) h [] s (announce-late (getD h 0 0) (getD h 1 0) (getD h 2 0) n k)
 
     module _ (k : n < never - getD h 2 0) where
       quiet : fires on (getD h 0 0) (getD h 2 0 + n) ≡ false → right on (getD h 0 0) (getD h 2 0 + n) ≡ true → Did place (announce n) h [] ok (set h 2 (getD h 2 0 + n)) []
       quiet e g =
-          did-yes place (announce n) h [] s (rw (announces-quiet on (getD h 0 0) (getD h 2 0) n k e, e))
+          did-yes place (announce n) h [] s (announce-quiet (getD h 0 0) (getD h 1 0) (getD h 2 0) n k e)
           (wrote-clock h (sound h s .words) (getD h 2 0 + n) g)
 
       pub announce-idle : getD h 1 0 ≡ 0 → Did place (announce n) h [] ok (set h 2 (getD h 2 0 + n)) []
@@ -181,5 +180,5 @@ module _ (h : List ℕ) (s : place .formed h [] ≡ true) where
       pub announce-fires : 0 < getD h 1 0 → getD h 0 0 ≤ getD h 2 0 + n → Did place (announce n) h [] (pos 1) (set (set h 2 (getD h 2 0 + n)) 1 0) []
       announce-fires e f =
           let g = fires-due on (getD h 0 0) (getD h 2 0 + n) (lt-ltb 0 (getD h 1 0) e) f (omega arith) in
-          did-yes place (announce n) h [] s (rw (announces-fires on (getD h 0 0) (getD h 2 0) n k g, g))
+          did-yes place (announce n) h [] s (announce-rings (getD h 0 0) (getD h 1 0) (getD h 2 0) n k g)
           (wrote-both h (sound h s .words) 0 (getD h 2 0 + n) (right-idle (getD h 0 0) (getD h 2 0 + n) (omega arith) false refl))

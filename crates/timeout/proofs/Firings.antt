@@ -1,24 +1,21 @@
 -- A timeout that is active fires once, when it is reached. Assumes nothing.
-use mathlib.Core.Path.{_≡_, refl, sym, ap, subst, _∙_}
-use mathlib.Core.Bool.{Bool, true, false, cond}
+use mathlib.Core.Path.{_≡_, refl, sym, ap, _∙_}
+use mathlib.Core.Bool.{true, false, cond}
 use mathlib.Core.List.{List, [], _∷_}
-use mathlib.Core.Logic.{_⊎_, inl, inr}
 use Prim.Native.Nat.{ℕ, suc, _+_, _≤_, _<_}
 use native.Mathlib.Omega.{arith}
-use lib.Dec.{ltb, leb}
+use lib.Dec.{ltb}
 use lib.IntN.{pos, negsuc}
 use lib.ListN.{getD}
-use borrow.Author.Tests.{ltb-true, leb-true, lt-ltb, le-ltb, le-leb}
+use borrow.Author.Tests.{lt-ltb, le-ltb, le-leb}
 use Rattle.seq.specs.List.{All}
 use Rattle.seq.proofs.Order.{clash, cond-same}
 use Rattle.thread.specs.Code.{ok}
 use Rattle.store.specs.Store.{Reply, answer, left}
 use Rattle.store.specs.History.{Event}
-use Rattle.store.proofs.Laws.{both-true}
 use Rattle.timeout.specs.Timeout.{Timeout, timeout, never, fires}
-use Rattle.timeout.specs.Post.{place}
 use Rattle.timeout.specs.History.{Call, announcing, ticked, moves, touches, firings, reached, Once, NeverReached, AtOnceReached, Quiet}
-use Rattle.timeout.proofs.Numbers.{fires-idle}
+use Rattle.timeout.proofs.Numbers.{fires-idle, fires-is}
 use Rattle.timeout.proofs.Calls.{Adds, relative, absolutely, forever, no-wait, Does, refuses, sets, aborts, moves-on, rings, holds}
 
 abbrev Untouched : List (Event Call) → Type 0
@@ -27,12 +24,9 @@ Untouched es = All (λ e. touches e ≡ false) es
 -- what an add or an abort would do is not asked
 added : {P : Type 0} {c : ℕ} {k : Call} {x : ℕ} → Adds c k x → touches (record { call = k; answer = ok }) ≡ false → P
 added relative e = clash e
-added absolutely e = clash e
+added (absolutely f) e = clash e
 added forever e = clash e
 added no-wait e = clash e
-
-fires-is : (d n : ℕ) → fires true d n ≡ true → (d < never) × (d ≤ n)
-fires-is d n e = let t = both-true (ltb d never) (leb d n) e in (ltb-true d never (t .0), leb-true d n (t .1))
 
 -- before and after: the deadline was x and the clock at c; now it is a and b
 pub data Stage (x c : ℕ) (es : List (Event Call)) (a b : ℕ) : Type 0 where
@@ -55,7 +49,7 @@ module _ (x c : ℕ) (es : List (Event Call)) (a b n : ℕ) (e : b ≡ c + ticke
   out : Stage x c es a b → fires (ltb 0 a) x (b + n) ≡ true → Stage x c (record { call = announcing n; answer = pos 1 } ∷ es) 0 (b + n)
   out (before k r f) g =
       let j : fires true x (b + n) ≡ true = rw (lt-ltb 0 a k) at g in
-      after refl (fires-is x (b + n) j .0) (fires-is x (b + n) j .1) (rw same j) (ap suc f)
+      after refl (fires-is true x (b + n) j .1) (fires-is true x (b + n) j .2) (rw same j) (ap suc f)
   out (after k u v r f) g = clash (sym g ∙ fires-idle (ltb 0 a) x (b + n) (le-ltb 0 a (omega arith)))
 
 still : (x c : ℕ) (es : List (Event Call)) (a b : ℕ) (k : Call) (m : ℕ) → Stage x c es a b → Stage x c (record { call = k; answer = negsuc m } ∷ es) a b
@@ -69,10 +63,10 @@ lives x c es d a b i k y (refuses m) z =
     record { clock = l .clock; deadline = l .deadline; stage = still x c es a b k m (l .stage) }
 lives x c es d a b i k y (sets e f) z = added f (z .0)
 lives x c es d a b i k y (aborts e) z = clash (z .0)
-lives x c es d a b i k y (moves-on {n} e) z =
+lives x c es d a b i k y (moves-on {n} f e) z =
     let l = i (z .1) in
     record { clock = omega (arith, l .clock); deadline = l .deadline; stage = on x c es a b n (l .clock) (l .stage) (rw (l .deadline) at e) }
-lives x c es d a b i k y (rings {n} e) z =
+lives x c es d a b i k y (rings {n} f e) z =
     let l = i (z .1) in
     record { clock = omega (arith, l .clock); deadline = l .deadline; stage = out x c es a b n (l .clock) (l .stage) (rw (l .deadline) at e) }
 
@@ -97,8 +91,8 @@ sleeps : (es : List (Event Call)) (d a b : ℕ) → (Untouched es → (a ≡ 0) 
 sleeps es d a b i k y (refuses m) z = i (z .1)
 sleeps es d a b i k y (sets e f) z = added f (z .0)
 sleeps es d a b i k y (aborts e) z = clash (z .0)
-sleeps es d a b i k y (moves-on e) z = i (z .1)
-sleeps es d a b i k y (rings {n} e) z = clash (sym e ∙ fires-idle (ltb 0 a) d (b + n) (le-ltb 0 a (omega (arith, i (z .1) .0))))
+sleeps es d a b i k y (moves-on f e) z = i (z .1)
+sleeps es d a b i k y (rings {n} f e) z = clash (sym e ∙ fires-idle (ltb 0 a) d (b + n) (le-ltb 0 a (omega (arith, i (z .1) .0))))
 
 pub quiet : Quiet
 quiet h h' es e k m u = holds (λ es t. Untouched es → (t .active ≡ 0) × (firings es ≡ 0)) sleeps e (λ z. (k, refl)) m .1 u .1

@@ -1,20 +1,18 @@
 -- The clock and the plan, through any calls. Assumes nothing.
-use mathlib.Core.Path.{_≡_, refl, sym, ap, subst, _∙_}
-use mathlib.Core.Bool.{true, false, cond}
+use mathlib.Core.Path.{_≡_, refl, sym, ap, subst}
+use mathlib.Core.Bool.{true, cond}
 use mathlib.Core.List.{List, [], _∷_}
-use Prim.Native.Nat.{ℕ, _+_, _-_, _≤_, _<_}
+use Prim.Native.Nat.{ℕ, _+_, _-_, _<_}
 use native.Mathlib.Omega.{arith}
-use lib.Dec.{ltb}
-use lib.IntN.{ℤ, pos}
+use lib.IntN.{pos}
 use borrow.Author.Tests.{lt-ltb, le-ltb}
-use Rattle.seq.proofs.Order.{clash}
 use Rattle.thread.specs.Code.{ok, ebusy, einval}
 use Rattle.store.specs.Store.{Reply, refuse, answer, left}
 use Rattle.store.specs.History.{Event}
-use Rattle.timeout.specs.Timeout.{Timeout, timeout, never, fires, set, abort, announce, fresh}
+use Rattle.timeout.specs.Timeout.{Timeout, timeout, never, fires, set, abort, announce}
 use Rattle.timeout.specs.Post.{place}
-use Rattle.timeout.specs.History.{Call, ticked, Plan, idle, due, planned, plan, Shows, firesAt, Promise, Always}
-use Rattle.timeout.proofs.Numbers.{announces-none}
+use Rattle.timeout.specs.History.{Call, ticked, Plan, idle, due, plan, Shows, firesAt, Promise, Always}
+use Rattle.timeout.proofs.Numbers.{set-busy, abort-no, announce-late}
 use Rattle.timeout.proofs.Answers.{sound}
 use Rattle.timeout.proofs.Calls.{Adds, relative, absolutely, forever, no-wait, Does, refuses, sets, aborts, moves-on, rings, holds}
 
@@ -31,7 +29,7 @@ shows-same (due x) d a c c' s = s
 -- a deadline is added, with the clock at b
 adds : (c : ℕ) (es : List (Event Call)) (b : ℕ) {k : Call} {x : ℕ} → b ≡ c + ticked es → Adds b k x → Kept c (record { call = k; answer = ok } ∷ es) (timeout x 1 b)
 adds c es b e relative = record { clock = omega arith; shows = (omega arith, omega arith) }
-adds c es b e absolutely = record { clock = omega arith; shows = (omega arith, refl) }
+adds c es b e (absolutely f) = record { clock = omega arith; shows = (omega arith, refl) }
 adds c es b e forever = record { clock = omega arith; shows = (omega arith, refl) }
 adds c es b e no-wait = record { clock = omega arith; shows = (omega arith, refl) }
 
@@ -40,8 +38,8 @@ keeps : (c : ℕ) (es : List (Event Call)) (d a b : ℕ) → Kept c es (timeout 
 keeps c es d a b i k y (refuses m) = record { clock = i .clock; shows = i .shows }
 keeps c es d a b i k y (sets e f) = adds c es b (i .clock) f
 keeps c es d a b i k y (aborts e) = record { clock = omega (arith, i .clock); shows = refl }
-keeps c es d a b i k y (moves-on {n} e) = record { clock = omega (arith, i .clock); shows = shows-same (plan c es) d a b (b + n) (i .shows) }
-keeps c es d a b i k y (rings e) = record { clock = omega (arith, i .clock); shows = refl }
+keeps c es d a b i k y (moves-on {n} f e) = record { clock = omega (arith, i .clock); shows = shows-same (plan c es) d a b (b + n) (i .shows) }
+keeps c es d a b i k y (rings f e) = record { clock = omega (arith, i .clock); shows = refl }
 
 -- what such a plan says of the next call
 module _ (d a c : ℕ) where
@@ -51,10 +49,10 @@ module _ (d a c : ℕ) where
 
   busy : (p : Plan) → Shows p (timeout d a c) → (x : ℕ) → p ≡ due x → (y : Reply ℕ) → set y (timeout d a c) ≡ refuse ebusy
   busy idle s x e y = absurd (let z : _≡_ {A = ℕ} 0 1 = cc in omega arith)
-  busy (due z) s x e y = rw (lt-ltb 0 a (s .0))
+  busy (due z) s x e y = set-busy d a c y (s .0)
 
   nothing : (p : Plan) → Shows p (timeout d a c) → p ≡ idle → abort (timeout d a c) ≡ refuse einval
-  nothing idle s e = rw (le-ltb 0 a (omega arith))
+  nothing idle s e = abort-no d a c s
   nothing (due z) s e = absurd (let z : _≡_ {A = ℕ} 0 1 = cc in omega arith)
 
 promised : (c : ℕ) (es : List (Event Call)) (d a b : ℕ) → b < never → Kept c es (timeout d a b) → Promise c es (timeout d a b)
@@ -63,7 +61,7 @@ promised c es d a b k i =
       clock = i .clock;
       below = k;
       shows = i .shows;
-      refused = λ n f. rw (announces-none (ltb 0 a) d b n (omega arith));
+      refused = λ n f. announce-late d a b n (omega arith);
       fires = answers-plan d a b (plan c es) (i .shows);
       busy = busy d a b (plan c es) (i .shows);
       nothing = nothing d a b (plan c es) (i .shows);

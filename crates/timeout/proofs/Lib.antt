@@ -3,3 +3,11 @@ pub mod Answers
 pub mod Calls
 pub mod Histories
 pub mod Firings
+pub mod Pairs
+pub mod Sets
+pub mod Moves
+pub mod Upstream
+pub mod Others
+pub mod Tells
+pub mod Lemmas
+pub mod Example

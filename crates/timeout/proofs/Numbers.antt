@@ -1,15 +1,23 @@
 -- What is decided on plain numbers. Assumes nothing.
-use mathlib.Core.Path.{_≡_, refl}
-use mathlib.Core.Bool.{Bool, true, false}
+use mathlib.Core.Path.{_≡_, refl, sym}
+use mathlib.Core.Bool.{Bool, true, false, cond}
+use mathlib.Core.Logic.{_⊎_, inl, inr}
 use Prim.Native.Nat.{ℕ, _+_, _-_, _≤_, _<_}
 use native.Mathlib.Omega.{arith}
 use lib.Dec.{eqb, ltb, leb}
-use lib.IntN.{ℤ, pos}
-use borrow.Author.Tests.{lt-ltb, le-ltb, le-leb, lt-leb, eq-eqb, ne-eqb}
-use Rattle.seq.proofs.Order.{cond-same}
-use Rattle.thread.specs.Code.{ok, einval}
-use Rattle.store.specs.Store.{refuse, accept}
-use Rattle.timeout.specs.Timeout.{never, later, fires, right, absolute, announces, announceDecide, until}
+use lib.IntN.{ℤ, pos, negsuc}
+use borrow.Author.Tests.{ltb-true, ltb-false, leb-true, leb-false, lt-ltb, le-ltb, le-leb, lt-leb, ne-eqb}
+use Rattle.seq.proofs.Order.{clash, cond-same}
+use Rattle.thread.specs.Code.{ok, ebusy, einval}
+use Rattle.store.specs.Store.{Reply, refuse, accept}
+use Rattle.timeout.specs.Timeout.{timeout, never, later, fires, right, absolute, announces, announceDecide, set, abort, announce, until}
+
+-- no code is two
+pub two-codes : {P : Type 0} {m n : ℕ} → pos m ≡ negsuc n → P
+two-codes e = absurd (let y : _≡_ {A = ℕ} 0 1 = cc in omega arith)
+
+pub not-one : {P : Type 0} → pos 0 ≡ pos 1 → P
+not-one e = absurd (let y : _≡_ {A = ℕ} 0 1 = cc in omega arith)
 
 -- a sum that would reach never, and any other
 module _ (a : ℤ) (c n : ℕ) where
@@ -28,6 +36,24 @@ module _ (b : Bool) (d n : ℕ) where
 
   pub fires-due : b ≡ true → d ≤ n → n < never → fires b d n ≡ true
   fires-due e k f = rw (e, lt-ltb d never (omega arith), le-leb d n k)
+
+pub fires-is : (b : Bool) (d n : ℕ) → fires b d n ≡ true → (b ≡ true) × (d < never) × (d ≤ n)
+fires-is b d n = go b (ltb d never) (leb d n) refl refl
+  where
+    go : (b p q : Bool) → ltb d never ≡ p → leb d n ≡ q → cond b (cond p q false) false ≡ true → (b ≡ true) × (d < never) × (d ≤ n)
+    go true true true e f g = (refl, ltb-true d never e, leb-true d n f)
+    go true true false e f g = clash (sym g)
+    go true false q e f g = clash (sym g)
+    go false p q e f g = clash (sym g)
+
+pub fires-not : (b : Bool) (d n : ℕ) → fires b d n ≡ false → (b ≡ false) ⊎ ((never ≤ d) ⊎ (n < d))
+fires-not b d n = go b (ltb d never) (leb d n) refl refl
+  where
+    go : (b p q : Bool) → ltb d never ≡ p → leb d n ≡ q → cond b (cond p q false) false ≡ false → (b ≡ false) ⊎ ((never ≤ d) ⊎ (n < d))
+    go true true true e f g = clash g
+    go true true false e f g = inr (inr (leb-false d n f))
+    go true false q e f g = inr (inl (ltb-false d never e))
+    go false p q e f g = inl refl
 
 -- numbers of a timeout
 module _ (d c : ℕ) where
@@ -50,8 +76,8 @@ module _ (d c : ℕ) where
   pub absolute-behind : d < c → absolute d c ≡ refuse einval
   absolute-behind e = rw (lt-leb c d e)
 
-  pub absolute-never : d ≡ never → absolute d c ≡ refuse einval
-  absolute-never e = rw e (cond-same (leb c never) (refuse einval))
+  pub absolute-far : never ≤ d → absolute d c ≡ refuse einval
+  absolute-far e = rw (le-ltb d never e) (cond-same (leb c d) (refuse einval))
 
   pub absolute-is : c ≤ d → d < never → absolute d c ≡ accept d ok
   absolute-is e g = rw (le-leb c d e, lt-ltb d never g)
@@ -81,3 +107,32 @@ module _ (x c : ℕ) where
 
   pub until-is : (x ≡ never → ⊥) → until x c ≡ x - c
   until-is e = rw (ne-eqb x never e)
+
+-- of a whole timeout
+module _ (d a c : ℕ) where
+  module _ (y : Reply ℕ) where
+    pub set-busy : 0 < a → set y (timeout d a c) ≡ refuse ebusy
+    set-busy k = rw (lt-ltb 0 a k)
+
+    pub set-no : a ≡ 0 → y ≡ refuse einval → set y (timeout d a c) ≡ refuse einval
+    set-no k e = rw (le-ltb 0 a (omega arith), e)
+
+    pub set-is : a ≡ 0 → {x : ℕ} → y ≡ accept x ok → set y (timeout d a c) ≡ accept (timeout x 1 c) ok
+    set-is k e = rw (le-ltb 0 a (omega arith), e)
+
+  pub abort-no : a ≡ 0 → abort (timeout d a c) ≡ refuse einval
+  abort-no k = rw (le-ltb 0 a (omega arith))
+
+  pub abort-is : 0 < a → abort (timeout d a c) ≡ accept (timeout d 0 c) ok
+  abort-is k = rw (lt-ltb 0 a k)
+
+  module _ (n : ℕ) where
+    pub announce-late : never - c ≤ n → announce n (timeout d a c) ≡ refuse einval
+    announce-late k = rw (announces-none (ltb 0 a) d c n k)
+
+    module _ (k : n < never - c) where
+      pub announce-quiet : fires (ltb 0 a) d (c + n) ≡ false → announce n (timeout d a c) ≡ accept (timeout d a (c + n)) ok
+      announce-quiet e = rw (announces-quiet (ltb 0 a) d c n k e, e)
+
+      pub announce-rings : fires (ltb 0 a) d (c + n) ≡ true → announce n (timeout d a c) ≡ accept (timeout d 0 (c + n)) (pos 1)
+      announce-rings e = rw (announces-fires (ltb 0 a) d c n k e, e)

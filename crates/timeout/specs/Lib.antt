@@ -1,3 +1,5 @@
 pub mod Timeout
 pub mod Post
 pub mod History
+pub mod Pairs
+pub mod Upstream

@@ -214,13 +214,13 @@ pub fn announce(h: &mut [u64], ticks: u64) -> i32
         return EINVAL;
     }
     let n = clock + ticks;
-    let deadline = h[0];
+    let due = h[0];
     let active = h[1];
     h[2] = n;
     if active == 0 {
         return OK;
     }
-    if n < deadline {
+    if n < due {
         return OK;
     }
     h[1] = 0;

@@ -6,6 +6,33 @@ ghost use Rattle.timeout.specs.Timeout.{Timeout, addDecide, announceDecide, abo
 ghost use Rattle.timeout.specs.Post.{place, asked};
 
 #[no_mangle]
+pub extern "C" fn wq_timeout_add_decide(current_tick: u64, duration: u64, deadline: &mut u64) -> i32
+    ensures { λ r. ⌜ Decided (addDecide «current_tick» duration) (now («deadline» .entry)) r (now («deadline» .exit)) ⌝ }
+{
+    timeout::add_decide(current_tick, duration, deadline)
+}
+
+#[no_mangle]
+pub extern "C" fn wq_timeout_abort_decide(is_active: bool) -> bool
+    ensures { λ r. ⌜ r ≡ abortDecide «is_active» ⌝ }
+{
+    timeout::abort_decide(is_active)
+}
+
+#[no_mangle]
+pub extern "C" fn wq_timeout_announce_decide(
+    current_tick: u64,
+    ticks: u64,
+    deadline: u64,
+    active: bool,
+    new_tick: &mut u64,
+) -> i32
+    ensures { λ r. ⌜ Decided (announceDecide «active» deadline «current_tick» ticks) (now («new_tick» .entry)) r (now («new_tick» .exit)) ⌝ }
+{
+    timeout::announce_decide(current_tick, ticks, deadline, active, new_tick)
+}
+
+#[no_mangle]
 pub extern "C" fn wq_timeout_init(head: &mut [u64; 3], current_tick: u64) -> i32
     ensures { λ r. ⌜ Started place (may «current_tick») (fresh «current_tick») (now (head .entry)) [] r (now (head .exit)) [] ⌝ }
 {
@@ -117,31 +144,4 @@ pub extern "C" fn wq_timeout_timepoint_timeout(
     ensures { λ r. ⌜ Decided (asked (timepointTimeout «timepoint») (now (head .entry))) (now («ticks» .entry)) r (now («ticks» .exit)) ⌝ }
 {
     timeout::timepoint_timeout(head, timepoint, ticks)
-}
-
-#[no_mangle]
-pub extern "C" fn wq_timeout_add_decide(current_tick: u64, duration: u64, deadline: &mut u64) -> i32
-    ensures { λ r. ⌜ Decided (addDecide «current_tick» duration) (now («deadline» .entry)) r (now («deadline» .exit)) ⌝ }
-{
-    timeout::add_decide(current_tick, duration, deadline)
-}
-
-#[no_mangle]
-pub extern "C" fn wq_timeout_abort_decide(is_active: bool) -> bool
-    ensures { λ r. ⌜ r ≡ abortDecide «is_active» ⌝ }
-{
-    timeout::abort_decide(is_active)
-}
-
-#[no_mangle]
-pub extern "C" fn wq_timeout_announce_decide(
-    current_tick: u64,
-    ticks: u64,
-    deadline: u64,
-    active: bool,
-    new_tick: &mut u64,
-) -> i32
-    ensures { λ r. ⌜ Decided (announceDecide «active» deadline «current_tick» ticks) (now («new_tick» .entry)) r (now («new_tick» .exit)) ⌝ }
-{
-    timeout::announce_decide(current_tick, ticks, deadline, active, new_tick)
 }

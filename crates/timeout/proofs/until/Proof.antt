@@ -1,38 +1,20 @@
+-- One law for each answer. Assumes nothing.
 use native.Mathlib.Omega.{arith}
-use mathlib.Core.Path.{refl, sym, ap, _∙_}
-use mathlib.Core.Bool.{true, false}
-use lib.ListN.{length, getD, length-set}
-use lib.Dec.{leb, ltb}
-use borrow.Author.Tests.{not-true, not-false, lt-ltb, le-ltb, lt-leb, le-leb, eq-eqb, ne-eqb}
-use Rattle.thread.specs.Code.{ok}
-use Rattle.store.proofs.Laws.{did-bad, looks-bad, decides, declines}
-use Rattle.timeout.specs.Timeout as timeouts
-use Rattle.timeout.specs.Post.{place}
-use Rattle.timeout.proofs.Numbers.{too-late, in-time, fires-idle, fires-early, fires-due, right-never, right-idle, right-at-once, right-ahead, right-behind, announces-none, announces-quiet, announces-fires, decides-wrong, decides-right, until-never, until-is}
-use Rattle.timeout.proofs.Answers.{sound, init-short, init-never, init-made, asked-bad, deadline-bad, asked-is, seen, deadline-no, deadline-is, is-busy, is-refused, is-set, busy, refused, was-set, abort-none, aborted, announce-none, announce-idle, announce-early, announce-fires}
-use mathlib.Core.List.{[]}
-use Rattle.store.specs.Store.{accept}
-use Rattle.timeout.proofs.Numbers.{absolute-behind, absolute-never, absolute-is}
-use Rattle.timeout.proofs.Answers.{remaining-none, remaining-some, expires-idle, expires-active}
+use mathlib.Core.Path.{sym}
+use Rattle.timeout.proofs.Numbers.{until-never, until-is}
 use borrow.Author.Needs.{needs}
 use Rattle.timeout.proofs.until.Statement.{statement}
 use Rattle.timeout.proofs.until.Tie as tie
-use Rattle.timeout.proofs.until.Reads as reads
-use Rattle.timeout.proofs.until.Lts as lts
 
--- src/lib.rt:50:9
 returns : tie.Need-returns
 returns c = sym (until-never (c .before .args .tick) (c .before .args .clock) (omega arith))
 
--- src/lib.rt:53:16
 sub-result : tie.Need-sub-result
 sub-result c = search needs
 
--- src/lib.rt:53:9
 returns-2 : tie.Need-returns-2
 returns-2 c = sym (until-is (c .before .before .args .tick) (c .before .before .args .clock) (λ e. omega arith))
 
--- src/lib.rt:46:1
 returns-3 : tie.Need-returns-3
 returns-3 c = omega (arith, until-is (c .before .before .args .tick) (c .before .before .args .clock) (λ e. omega arith))
 

@@ -1,0 +1,98 @@
+-- Our contracts imply those of Gale's timeout.rs. Assumes nothing.
+use mathlib.Core.Path.{_≡_, refl, sym, subst, _∙_}
+use mathlib.Core.Bool.{Bool, true, false}
+use mathlib.Core.List.{List, []}
+use mathlib.Core.Logic.{inl, inr, ⊎-elim}
+use Prim.Native.Nat.{ℕ, _≤_, _<_}
+use native.Mathlib.Omega.{arith}
+use lib.Dec.{ltb, leb}
+use lib.IntN.{ℤ}
+use lib.ListN.{length, getD}
+use borrow.Author.Tests.{ltb-true, lt-ltb, le-ltb, le-leb}
+use Rattle.seq.proofs.Order.{cond-same}
+use Rattle.thread.specs.Code.{ok, ebusy, einval}
+use Rattle.store.specs.Store.{Reply, answer, left, settled, reply, Did, Started}
+use Rattle.store.proofs.Laws.{answers, replies, kept-bad, kept-no}
+use Rattle.store.proofs.Histories.{done}
+use Rattle.timeout.specs.Timeout.{Timeout, timeout, never, right, set, add, addAbsolute, addForever, addNoWait, abort, announce, fresh, may}
+use Rattle.timeout.specs.Post.{place}
+use Rattle.timeout.specs.Upstream.{Inv, Init, Add, AddAbsolute, AddFixed, Abort, Announce}
+use Rattle.timeout.proofs.Numbers.{right-idle, right-at-once, right-ahead, set-busy}
+use Rattle.timeout.proofs.Answers.{right-is, sound}
+use Rattle.timeout.proofs.Sets.{adds, adds-absolute, fixed}
+use Rattle.timeout.proofs.Moves.{aborts, announces}
+
+-- numbers are a timeout's exactly if upstream's invariant holds of it
+pub inv-right : (d a c : ℕ) → Inv (timeout d a c) → right (ltb 0 a) d c ≡ true
+inv-right d a c i = go (ltb 0 a) refl
+  where
+    go : (b : Bool) → ltb 0 a ≡ b → right (ltb 0 a) d c ≡ true
+    go true e = ⊎-elim (λ z. right-at-once d c (i .tick) (ltb 0 a) z) (λ z. right-ahead d c (i .tick) (ltb 0 a) z) (i .ahead (ltb-true 0 a e))
+    go false e = right-idle d c (i .tick) (ltb 0 a) e
+
+pub right-inv : (d a c : ℕ) → right (ltb 0 a) d c ≡ true → Inv (timeout d a c)
+right-inv d a c e = let z = right-is (ltb 0 a) d c e in record { tick = z .0; ahead = λ k. z .1 (lt-ltb 0 a k) }
+
+-- and so is memory, with a header of three words
+pub inv-formed : (h : List ℕ) → 3 ≤ length h → Inv (place .object h []) → place .formed h [] ≡ true
+inv-formed h k i = rw (le-leb 3 (length h) k) (inv-right (getD h 0 0) (getD h 1 0) (getD h 2 0) i)
+
+pub formed-inv : (h : List ℕ) → place .formed h [] ≡ true → (3 ≤ length h) × Inv (place .object h [])
+formed-inv h e = let s = sound h e in (s .words, record { tick = s .below; ahead = s .ahead })
+
+module _ (h h' : List ℕ) (c : ℕ) (r : ℤ) (s : Started place (may c) (fresh c) h [] r h' []) where
+  pub timeout-init : 3 ≤ length h → c < never → (r ≡ ok) × Init c (place .object h' [])
+  timeout-init k b =
+      let e : r ≡ ok = s .code ∙ rw (le-leb 3 (length h) k, lt-ltb c never b) in
+      (e, subst (λ (t : Timeout). Init c t) (sym (s .made e .object)) (record { inv = record { tick = b; ahead = λ j. absurd (omega arith) }; inactive = refl; deadline = refl; clock = refl }))
+
+  pub init-refuses : never ≤ c → (r ≡ einval) × (h' ≡ h)
+  init-refuses b =
+      let e : r ≡ einval = s .code ∙ rw (le-ltb c never b) (cond-same (leb 3 (length h)) einval) in
+      (e, s .kept 21 e .0)
+
+module _ (h h' : List ℕ) (r : ℤ) where
+  -- what upstream demands is refused here: a timeout that is as it should be, and one that is not active
+  pub refuses : (f : Timeout → Reply Timeout) → place .formed h [] ≡ false → Did place f h [] r h' [] → (r ≡ einval) × (h' ≡ h)
+  refuses f e d = let z = kept-bad place f h [] d e in (z .0, z .1)
+
+  module _ (k : 3 ≤ length h) (i : Inv (place .object h [])) where
+    pub active-refuses : (y : Timeout → Reply ℕ) → 0 < getD h 1 0 → Did place (λ t. set (y t) t) h [] r h' [] → (r ≡ ebusy) × (h' ≡ h)
+    active-refuses y b d =
+        let z = kept-no place (λ t. set (y t) t) h [] d (inv-formed h k i) (set-busy (getD h 0 0) (getD h 1 0) (getD h 2 0) (y (place .object h [])) b) in
+        (z .0, z .1)
+
+    -- what holds of the operation holds of the memory
+    holds : (f : Timeout → Reply Timeout) (R : ℤ → Timeout → Type 0) → Did place f h [] r h' []
+        → R (answer (f (place .object h []))) (left (f (place .object h [])) (place .object h [])) → R r (place .object h' [])
+    holds f R d a =
+        let e = inv-formed h k i in
+        subst (λ (t : Timeout). R r t) (sym (done place f h [] e d .1))
+        (subst (λ (z : ℤ). R z (left (f (place .object h [])) (place .object h []))) (sym (answers place f h [] d e)) a)
+
+    module _ (z : getD h 1 0 ≡ 0) where
+      pub timeout-add : (n m m' : ℕ) → Did place (add n) h [] r h' [] → m' ≡ settled (λ (t : Timeout). t .deadline) (reply place (add n) h []) m
+          → Add n (place .object h []) r m' (place .object h' [])
+      timeout-add n m m' d e =
+          let o : m' ≡ settled (λ (t : Timeout). t .deadline) (add n (place .object h [])) m = e ∙ rw (replies place (add n) h [] (inv-formed h k i)) in
+          holds (add n) (λ y t. Add n (place .object h []) y m' t) d
+          (rw o (adds (getD h 0 0) (getD h 1 0) (getD h 2 0) n m (i .tick) z))
+
+      pub timeout-add-absolute : (x : ℕ) → Did place (addAbsolute x) h [] r h' [] → AddAbsolute x (place .object h []) r (place .object h' [])
+      timeout-add-absolute x d =
+          holds (addAbsolute x) (AddAbsolute x (place .object h [])) d (adds-absolute (getD h 0 0) (getD h 1 0) (getD h 2 0) x (i .tick) z)
+
+      pub timeout-add-forever : Did place addForever h [] r h' [] → AddFixed never (place .object h []) (place .object h' [])
+      timeout-add-forever d =
+          holds addForever (λ y t. AddFixed never (place .object h []) t) d
+          (fixed (getD h 0 0) (getD h 1 0) (getD h 2 0) never (i .tick) z (inr (omega (arith, i .tick))))
+
+      pub timeout-add-no-wait : Did place addNoWait h [] r h' [] → AddFixed 0 (place .object h []) (place .object h' [])
+      timeout-add-no-wait d =
+          holds addNoWait (λ y t. AddFixed 0 (place .object h []) t) d (fixed (getD h 0 0) (getD h 1 0) (getD h 2 0) 0 (i .tick) z (inl refl))
+
+    pub timeout-abort : Did place abort h [] r h' [] → Abort (place .object h []) r (place .object h' [])
+    timeout-abort d = holds abort (Abort (place .object h [])) d (aborts (getD h 0 0) (getD h 1 0) (getD h 2 0) i)
+
+    pub timeout-announce : (n : ℕ) → Did place (announce n) h [] r h' [] → Announce n (place .object h []) r (place .object h' [])
+    timeout-announce n d = holds (announce n) (Announce n (place .object h [])) d (announces (getD h 0 0) (getD h 1 0) (getD h 2 0) i n)
