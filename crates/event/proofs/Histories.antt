@@ -2,7 +2,7 @@
 use mathlib.Core.Path.{_≡_, refl, sym, ap, _∙_}
 use mathlib.Core.Bool.{Bool, true, false, cond, not, _&&_, _||_}
 use Prim.Native.Nat.{ℕ, _<_}
-use borrow.Author.Tests.{le-leb}
+use borrow.Author.Tests.{le-leb, leb-true}
 use lib.ListN.{length, getD}
 use Rattle.seq.specs.Bits.{bit}
 use Rattle.seq.proofs.Bits.{bit-bits, bits-same, by-bits}
@@ -10,7 +10,7 @@ use Rattle.seq.proofs.Masks.{bit-none, bit-full}
 use Rattle.store.proofs.Histories.{throughout}
 use Rattle.event.specs.Event.{width}
 use Rattle.event.specs.Post.{place}
-use Rattle.event.specs.History.{Call, posting, setting, settingMasked, clearing, does, next, silent, there, says, heard, Promise, Always, AllMasked}
+use Rattle.event.specs.History.{Call, posting, setting, settingMasked, clearing, does, next, silent, there, says, heard, lastSaid, Promise, Always, FromInit, AllMasked}
 
 said : (c d b : Bool) → cond c d b ≡ heard (cond c (there d) silent) b
 said true d b = refl
@@ -40,6 +40,11 @@ pub always : Always
 always h h' es k m =
     throughout place does (Promise (getD h 0 0)) (λ c es e p i b. bit-next i b c e ∙ ap (heard (says c i)) (p i b)) (le-leb 1 (length h) k)
     (λ i b. refl) m .1
+
+pub from-init : FromInit
+from-init h h₀ h' es s m i b =
+    let y = s .made refl in
+    always h₀ h' es (leb-true 1 (length h₀) (y .formed)) m i b ∙ ap (λ (z : Bool). lastSaid z i es) (ap (bit i) (y .object) ∙ bit-none i)
 
 pub all-masked : (e x : ℕ) → x < 4294967296 → AllMasked e x
 all-masked e x b =

@@ -13,7 +13,7 @@ use Rattle.event.specs.History.{Call, posting, setting, settingMasked, c
 use Rattle.event.specs.Upstream.{Inv, Words, Inductive, Monotonic, SetClear, AllAny, Idempotent, MaskedFull, MaskedZero}
 use Rattle.event.proofs.Words.{or-is, and-not-is, replaced-is}
 use Rattle.event.proofs.Histories.{all-masked}
-use Rattle.event.proofs.Waits.{conditions}
+use Rattle.event.proofs.Conditions.{conditions}
 
 keeps-inv : (e : ℕ) (k : Call) → Inv e → Words k → Inv (next e k)
 keeps-inv e (posting x) i w = bits-lt width _

@@ -1,6 +1,7 @@
 pub mod Words
 pub mod Answers
 pub mod Histories
+pub mod Conditions
 pub mod Waits
 pub mod Lemmas
 pub mod Upstream

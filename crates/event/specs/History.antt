@@ -5,7 +5,8 @@ use mathlib.Core.List.{List, [], _∷_}
 use Prim.Native.Nat.{ℕ, _≤_, _<_}
 use lib.ListN.{length, getD}
 use Rattle.seq.specs.Bits.{bit}
-use Rattle.store.specs.Store.{Reply, left}
+use Rattle.thread.specs.Code.{ok}
+use Rattle.store.specs.Store.{Reply, left, Started}
 use Rattle.store.specs.History.{Event, Run}
 use Rattle.event.specs.Event.{width, post, set, setMasked, clear, posted, masked, cleared}
 use Rattle.event.specs.Post.{place}
@@ -27,17 +28,17 @@ abbrev pub next : ℕ → Call → ℕ
 next e k = left (does k e) e
 
 -- what a call says of a flag: nothing, or whether it is there from now on
-pub data Word : Type 0 where
-  silent : Word
-  there : Bool → Word
+pub data Remark : Type 0 where
+  silent : Remark
+  there : Bool → Remark
 
-abbrev pub says : Call → ℕ → Word
+abbrev pub says : Call → ℕ → Remark
 says (posting new) i = cond (bit i new) (there true) silent
 says (setting new) i = there (bit i new)
 says (settingMasked new mask) i = cond (bit i mask) (there (bit i new)) silent
 says (clearing gone) i = cond (bit i gone) (there false) silent
 
-abbrev pub heard : Word → Bool → Bool
+abbrev pub heard : Remark → Bool → Bool
 heard silent b = b
 heard (there c) b = c
 
@@ -53,6 +54,12 @@ Promise e es f = (i : ℕ) → i < width → bit i f ≡ lastSaid (bit i e) i es
 -- any events, in memory
 abbrev pub Always : Type 0
 Always = (h h' : List ℕ) (es : List (Event Call)) → 1 ≤ length h → Run place does h [] es h' [] → Promise (getD h 0 0) es (getD h' 0 0)
+
+-- and from an init on, where no flag is there
+abbrev pub FromInit : Type 0
+FromInit =
+    (h h₀ h' : List ℕ) (es : List (Event Call)) → Started place true 0 h [] ok h₀ [] → Run place does h₀ [] es h' []
+    → (i : ℕ) → i < width → bit i (getD h' 0 0) ≡ lastSaid false i es
 
 -- each call is one that replaces the flags of a mask, as post_decide does
 pub record AllMasked (e x : ℕ) : Type 0 where

@@ -1,11 +1,15 @@
 -- For what a thread waits, and when it need not.
 use mathlib.Core.Path.{_≡_}
 use mathlib.Core.Bool.{Bool, true, false, _&&_}
+use mathlib.Core.List.{List, []}
 use Prim.Native.Nat.{ℕ, _≤_, _<_}
+use lib.IntN.{pos}
+use lib.ListN.{getD}
 use Rattle.seq.specs.Bits.{bit, Somewhere}
 use Rattle.thread.specs.Code.{ebusy}
-use Rattle.store.specs.Store.{refuse, accept, answer}
-use Rattle.event.specs.Event.{width, anyThere, allThere, matching, waitAny, waitAll, met, matched, pends, waits}
+use Rattle.store.specs.Store.{refuse, accept, answer, looks}
+use Rattle.event.specs.Event.{width, anyThere, allThere, matching, told, waitAny, waitAll, met, matched, pends, waits}
+use Rattle.event.specs.Post.{place}
 use Rattle.event.specs.History.{posting, clearing, next}
 
 pub record Conditions (desired e : ℕ) : Type 0 where
@@ -24,6 +28,13 @@ pub record Conditions (desired e : ℕ) : Type 0 where
 pub record Decides (e desired type : ℕ) (noWait : Bool) : Type 0 where
   pub over : type ≤ waitAll → met type desired e ≡ true → waits e desired type noWait ≡ accept (matching desired e) matched
   pub only : answer (waits e desired type noWait) ≡ matched → (type ≤ waitAll) × (met type desired e ≡ true)
+
+-- so on the flags in memory the tests and the decision agree
+pub record Agree (h : List ℕ) (desired : ℕ) (noWait : Bool) : Type 0 where
+  pub any-over : looks place (λ e. told (anyThere desired e)) h [] ≡ pos 1 → answer (waits (getD h 0 0) desired waitAny noWait) ≡ matched
+  pub over-any : answer (waits (getD h 0 0) desired waitAny noWait) ≡ matched → looks place (λ e. told (anyThere desired e)) h [] ≡ pos 1
+  pub all-over : looks place (λ e. told (allThere desired e)) h [] ≡ pos 1 → answer (waits (getD h 0 0) desired waitAll noWait) ≡ matched
+  pub over-all : answer (waits (getD h 0 0) desired waitAll noWait) ≡ matched → looks place (λ e. told (allThere desired e)) h [] ≡ pos 1
 
 -- waiting for no flag at all
 pub record None (e : ℕ) (noWait : Bool) : Type 0 where

@@ -93,6 +93,16 @@ fn all_there(e: u32, d: u32) -> bool
     e & d == d
 }
 
+// Whether the flags e end a wait of this type for d.
+fn is_met(e: u32, d: u32, wait_type: u32) -> bool
+    ensures { λ r. ⌜ r ≡ met «wait_type» d e ⌝ }
+{
+    if wait_type == WAIT_ALL {
+        return all_there(e, d);
+    }
+    any_there(e, d)
+}
+
 // 1: yes; 0: no.
 pub fn wait_check_any(h: &[u32], desired: u32) -> i32
     ensures { λ r. ⌜ r ≡ looks place (λ e. told (anyThere desired e)) (now (h .entry)) [] ⌝ }
@@ -151,16 +161,6 @@ pub fn wait_decide(
     }
     *matched = 0;
     PEND
-}
-
-// Whether the flags e end a wait of this type for d.
-fn is_met(e: u32, d: u32, wait_type: u32) -> bool
-    ensures { λ r. ⌜ r ≡ met «wait_type» d e ⌝ }
-{
-    if wait_type == WAIT_ALL {
-        return all_there(e, d);
-    }
-    any_there(e, d)
 }
 
 // The flags of the mask are as in new_events, the others as they are.
