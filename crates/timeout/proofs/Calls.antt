@@ -12,10 +12,10 @@ use Rattle.store.specs.Store.{Reply, refuse, accept, answer, left}
 use Rattle.store.specs.History.{Event, Run}
 use Rattle.store.proofs.Laws.{both-true}
 use Rattle.store.proofs.Histories.{throughout}
-use Rattle.timeout.specs.Timeout.{Timeout, timeout, never, later, fires, absolute, set, abort, announce}
+use Rattle.timeout.specs.Timeout.{Timeout, timeout, never, later, fires, absolute, arm, abort, announce}
 use Rattle.timeout.specs.Post.{place}
 use Rattle.timeout.specs.History.{Call, adding, addingAbsolute, addingForever, addingNoWait, aborting, announcing, does}
-use Rattle.timeout.proofs.Numbers.{set-busy, set-no, set-is, abort-no, abort-is, announce-late, announce-quiet, announce-rings}
+use Rattle.timeout.proofs.Whole.{set-busy, set-no, set-is, abort-no, abort-is, announce-late, announce-quiet, announce-rings}
 
 -- the deadline x of a call that adds, with the clock at c
 pub data Adds (c : ℕ) : Call → ℕ → Type 0 where
@@ -34,10 +34,10 @@ pub data Does (d a c : ℕ) : Call → Reply Timeout → Type 0 where
 
 module _ (d a c : ℕ) where
   -- a deadline x, if the test b says so
-  which-set : {k : Call} (b : Bool) (x : ℕ) → (b ≡ true → Adds c k x) → (y : Reply ℕ) → y ≡ cond b (accept x ok) (refuse (negsuc 21)) → Does d a c k (set y (timeout d a c))
+  which-set : {k : Call} (b : Bool) (x : ℕ) → (b ≡ true → Adds c k x) → (y : Reply ℕ) → y ≡ cond b (accept x ok) (refuse (negsuc 21)) → Does d a c k (arm y (timeout d a c))
   which-set {k} b x i y e = go (ltb 0 a) b refl refl e
     where
-      go : (f p : Bool) → ltb 0 a ≡ f → b ≡ p → y ≡ cond p (accept x ok) (refuse (negsuc 21)) → Does d a c k (set y (timeout d a c))
+      go : (f p : Bool) → ltb 0 a ≡ f → b ≡ p → y ≡ cond p (accept x ok) (refuse (negsuc 21)) → Does d a c k (arm y (timeout d a c))
       go true p g z e = rw (set-busy d a c y (ltb-true 0 a g)) (refuses 15)
       go false true g z e = let k : a ≡ 0 = omega (arith, ltb-false 0 a g) in rw (set-is d a c y k e) (sets k (i z))
       go false false g z e = rw (set-no d a c y (omega (arith, ltb-false 0 a g)) e) (refuses 21)

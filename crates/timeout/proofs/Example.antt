@@ -66,5 +66,5 @@ run-is = (refl, refl, refl, refl, refl, refl, refl, refl, refl, refl)
 -- in memory, with a word beside it
 pub run-made : Run place does (0 ∷ 0 ∷ 10 ∷ 9 ∷ []) [] (told (announcing 5) (pos 1) ∷ told (adding 5) ok ∷ []) (15 ∷ 0 ∷ 15 ∷ 9 ∷ []) []
 run-made =
-    then (announcing 5) (pos 1) (then (adding 5) ok start (answers.added (0 ∷ 0 ∷ 10 ∷ 9 ∷ []) refl 5 refl (omega arith) 0 .0))
+    then (announcing 5) (pos 1) (then (adding 5) ok start (answers.added (0 ∷ 0 ∷ 10 ∷ 9 ∷ []) refl 5 0 refl (omega arith) .0))
     (answers.announce-fires (15 ∷ 1 ∷ 10 ∷ 9 ∷ []) refl 5 (omega arith) (omega arith) (omega arith))

@@ -14,7 +14,7 @@ use Rattle.thread.specs.Code.{ok}
 use Rattle.store.specs.Store.{Reply, answer, left}
 use Rattle.store.specs.History.{Event}
 use Rattle.timeout.specs.Timeout.{Timeout, timeout, never, fires}
-use Rattle.timeout.specs.History.{Call, announcing, ticked, moves, touches, firings, reached, Once, NeverReached, AtOnceReached, Quiet}
+use Rattle.timeout.specs.History.{Call, announcing, ticked, moves, touches, firings, reached, Once, NeverReached, Forever, AtOnceReached, Quiet}
 use Rattle.timeout.proofs.Numbers.{fires-idle, fires-is}
 use Rattle.timeout.proofs.Calls.{Adds, relative, absolutely, forever, no-wait, Does, refuses, sets, aborts, moves-on, rings, holds}
 
@@ -84,6 +84,9 @@ never-reached c (e ∷ es) = rw (never-reached c es) (cond-same (moves e) false)
 
 pub at-once-reached : AtOnceReached
 at-once-reached c e es f = rw (f, le-leb 0 (c + ticked (e ∷ es)) (omega arith))
+
+pub forever-quiet : Forever
+forever-quiet h h' es e k z m u = once h h' es e k m u ∙ rw z (ap (λ b. cond b 1 0) (never-reached (getD h 2 0) es))
 
 -- one that is not active
 sleeps : (es : List (Event Call)) (d a b : ℕ) → (Untouched es → (a ≡ 0) × (firings es ≡ 0)) → (k : Call) (y : Reply Timeout) → Does d a b k y

@@ -9,11 +9,11 @@ use borrow.Author.Tests.{lt-ltb, le-ltb}
 use Rattle.thread.specs.Code.{ok, ebusy, einval}
 use Rattle.store.specs.Store.{Reply, refuse, answer, left}
 use Rattle.store.specs.History.{Event}
-use Rattle.timeout.specs.Timeout.{Timeout, timeout, never, fires, set, abort, announce}
+use Rattle.timeout.specs.Timeout.{Timeout, timeout, never, fires, arm, abort, announce}
 use Rattle.timeout.specs.Post.{place}
 use Rattle.timeout.specs.History.{Call, ticked, Plan, idle, due, plan, Shows, firesAt, Promise, Always}
-use Rattle.timeout.proofs.Numbers.{set-busy, abort-no, announce-late}
-use Rattle.timeout.proofs.Answers.{sound}
+use Rattle.timeout.proofs.Whole.{set-busy, abort-no, announce-late}
+use Rattle.timeout.proofs.Memory.{sound}
 use Rattle.timeout.proofs.Calls.{Adds, relative, absolutely, forever, no-wait, Does, refuses, sets, aborts, moves-on, rings, holds}
 
 -- with the clock at c before the events es
@@ -47,7 +47,7 @@ module _ (d a c : ℕ) where
   answers-plan idle s n k = rw (lt-ltb (c + n) never k, le-ltb 0 a (omega arith))
   answers-plan (due x) s n k = rw (lt-ltb (c + n) never k, lt-ltb 0 a (s .0)) (ap (λ m. cond (fires true m (c + n)) (pos 1) ok) (s .1))
 
-  busy : (p : Plan) → Shows p (timeout d a c) → (x : ℕ) → p ≡ due x → (y : Reply ℕ) → set y (timeout d a c) ≡ refuse ebusy
+  busy : (p : Plan) → Shows p (timeout d a c) → (x : ℕ) → p ≡ due x → (y : Reply ℕ) → arm y (timeout d a c) ≡ refuse ebusy
   busy idle s x e y = absurd (let z : _≡_ {A = ℕ} 0 1 = cc in omega arith)
   busy (due z) s x e y = set-busy d a c y (s .0)
 

@@ -11,7 +11,8 @@ use Rattle.store.specs.Store.{Reply, accept, left}
 use Rattle.timeout.specs.Timeout.{Timeout, timeout, never, addDecide, add}
 use Rattle.timeout.specs.History.{Call}
 use Rattle.timeout.specs.Upstream.{Inv, Inductive, AddCorrect, AbortDeactivates, FiresExpired, NoOverflow, NeverExpires, AlwaysExpires, AddRoundtrip, TimepointRoundtrip, AbortThenAdd}
-use Rattle.timeout.proofs.Numbers.{in-time, fires-early, fires-due, fires-not, set-is, abort-is, announce-quiet, announce-rings, until-is}
+use Rattle.timeout.proofs.Numbers.{in-time, fires-early, fires-due, fires-not, until-is}
+use Rattle.timeout.proofs.Whole.{set-is, abort-is, announce-quiet, announce-rings}
 use Rattle.timeout.proofs.Calls.{Adds, relative, absolutely, forever, no-wait, Does, refuses, sets, aborts, moves-on, rings, which}
 
 inv-adds : (c : ℕ) {k : Call} {x : ℕ} → c < never → Adds c k x → Inv (timeout x 1 c)

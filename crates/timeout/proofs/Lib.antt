@@ -1,8 +1,11 @@
 pub mod Numbers
+pub mod Whole
+pub mod Memory
 pub mod Answers
 pub mod Calls
 pub mod Histories
 pub mod Firings
+pub mod Steps
 pub mod Pairs
 pub mod Sets
 pub mod Moves

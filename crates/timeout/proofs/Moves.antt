@@ -12,7 +12,8 @@ use Rattle.thread.specs.Code.{ok, einval}
 use Rattle.store.specs.Store.{Reply, refuse, accept, answer, left}
 use Rattle.timeout.specs.Timeout.{Timeout, timeout, never, fires, abort, announce}
 use Rattle.timeout.specs.Upstream.{Inv, Abort, Announce}
-use Rattle.timeout.proofs.Numbers.{two-codes, not-one, fires-due, fires-is, fires-not, abort-no, abort-is, announce-late, announce-quiet, announce-rings}
+use Rattle.timeout.proofs.Numbers.{two-codes, not-one, fires-due, fires-is, fires-not}
+use Rattle.timeout.proofs.Whole.{abort-no, abort-is, announce-late, announce-quiet, announce-rings}
 
 abbrev pub Announces : (n d a c : ℕ) → Reply Timeout → Type 0
 Announces n d a c y = Announce n (timeout d a c) (answer y) (left y (timeout d a c))

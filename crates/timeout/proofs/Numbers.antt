@@ -8,9 +8,9 @@ use lib.Dec.{eqb, ltb, leb}
 use lib.IntN.{ℤ, pos, negsuc}
 use borrow.Author.Tests.{ltb-true, ltb-false, leb-true, leb-false, lt-ltb, le-ltb, le-leb, lt-leb, ne-eqb}
 use Rattle.seq.proofs.Order.{clash, cond-same}
-use Rattle.thread.specs.Code.{ok, ebusy, einval}
-use Rattle.store.specs.Store.{Reply, refuse, accept}
-use Rattle.timeout.specs.Timeout.{timeout, never, later, fires, right, absolute, announces, announceDecide, set, abort, announce, until}
+use Rattle.thread.specs.Code.{ok, einval}
+use Rattle.store.specs.Store.{refuse, accept}
+use Rattle.timeout.specs.Timeout.{never, later, fires, right, absolute, announces, announceDecide, until}
 
 -- no code is two
 pub two-codes : {P : Type 0} {m n : ℕ} → pos m ≡ negsuc n → P
@@ -107,32 +107,3 @@ module _ (x c : ℕ) where
 
   pub until-is : (x ≡ never → ⊥) → until x c ≡ x - c
   until-is e = rw (ne-eqb x never e)
-
--- of a whole timeout
-module _ (d a c : ℕ) where
-  module _ (y : Reply ℕ) where
-    pub set-busy : 0 < a → set y (timeout d a c) ≡ refuse ebusy
-    set-busy k = rw (lt-ltb 0 a k)
-
-    pub set-no : a ≡ 0 → y ≡ refuse einval → set y (timeout d a c) ≡ refuse einval
-    set-no k e = rw (le-ltb 0 a (omega arith), e)
-
-    pub set-is : a ≡ 0 → {x : ℕ} → y ≡ accept x ok → set y (timeout d a c) ≡ accept (timeout x 1 c) ok
-    set-is k e = rw (le-ltb 0 a (omega arith), e)
-
-  pub abort-no : a ≡ 0 → abort (timeout d a c) ≡ refuse einval
-  abort-no k = rw (le-ltb 0 a (omega arith))
-
-  pub abort-is : 0 < a → abort (timeout d a c) ≡ accept (timeout d 0 c) ok
-  abort-is k = rw (lt-ltb 0 a k)
-
-  module _ (n : ℕ) where
-    pub announce-late : never - c ≤ n → announce n (timeout d a c) ≡ refuse einval
-    announce-late k = rw (announces-none (ltb 0 a) d c n k)
-
-    module _ (k : n < never - c) where
-      pub announce-quiet : fires (ltb 0 a) d (c + n) ≡ false → announce n (timeout d a c) ≡ accept (timeout d a (c + n)) ok
-      announce-quiet e = rw (announces-quiet (ltb 0 a) d c n k e, e)
-
-      pub announce-rings : fires (ltb 0 a) d (c + n) ≡ true → announce n (timeout d a c) ≡ accept (timeout d 0 (c + n)) (pos 1)
-      announce-rings e = rw (announces-fires (ltb 0 a) d c n k e, e)

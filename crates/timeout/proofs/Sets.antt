@@ -8,12 +8,13 @@ use lib.Dec.{ltb, leb}
 use borrow.Author.Tests.{ltb-true, ltb-false, leb-true, leb-false}
 use Rattle.thread.specs.Code.{ok, einval}
 use Rattle.store.specs.Store.{Reply, refuse, accept, answer, left, settled}
-use Rattle.timeout.specs.Timeout.{Timeout, timeout, never, set, add, addAbsolute}
+use Rattle.timeout.specs.Timeout.{Timeout, timeout, never, arm, add, addAbsolute}
 use Rattle.timeout.specs.Upstream.{Add, AddAbsolute, AddFixed}
-use Rattle.timeout.proofs.Numbers.{two-codes, set-no, set-is, in-time, too-late, absolute-behind, absolute-far, absolute-is}
+use Rattle.timeout.proofs.Numbers.{two-codes, in-time, too-late, absolute-behind, absolute-far, absolute-is}
+use Rattle.timeout.proofs.Whole.{set-no, set-is}
 
 module _ (d a c : ℕ) where
-  pub fixed : (x : ℕ) → c < never → a ≡ 0 → (x ≡ 0) ⊎ (c ≤ x) → AddFixed x (timeout d a c) (left (set (accept x ok) (timeout d a c)) (timeout d a c))
+  pub fixed : (x : ℕ) → c < never → a ≡ 0 → (x ≡ 0) ⊎ (c ≤ x) → AddFixed x (timeout d a c) (left (arm (accept x ok) (timeout d a c)) (timeout d a c))
   fixed x k e f =
       subst (λ (y : Reply Timeout). AddFixed x (timeout d a c) (left y (timeout d a c))) (sym (set-is d a c (accept x ok) e refl))
       (record { inv = record { tick = k; ahead = λ j. f }; active = omega arith; deadline = refl; clock = refl })

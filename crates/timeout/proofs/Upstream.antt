@@ -14,11 +14,12 @@ use Rattle.thread.specs.Code.{ok, ebusy, einval}
 use Rattle.store.specs.Store.{Reply, answer, left, settled, reply, Did, Started}
 use Rattle.store.proofs.Laws.{answers, replies, kept-bad, kept-no}
 use Rattle.store.proofs.Histories.{done}
-use Rattle.timeout.specs.Timeout.{Timeout, timeout, never, right, set, add, addAbsolute, addForever, addNoWait, abort, announce, fresh, may}
+use Rattle.timeout.specs.Timeout.{Timeout, timeout, never, right, arm, add, addAbsolute, addForever, addNoWait, abort, announce, fresh, may}
 use Rattle.timeout.specs.Post.{place}
 use Rattle.timeout.specs.Upstream.{Inv, Init, Add, AddAbsolute, AddFixed, Abort, Announce}
-use Rattle.timeout.proofs.Numbers.{right-idle, right-at-once, right-ahead, set-busy}
-use Rattle.timeout.proofs.Answers.{right-is, sound}
+use Rattle.timeout.proofs.Numbers.{right-idle, right-at-once, right-ahead}
+use Rattle.timeout.proofs.Whole.{set-busy}
+use Rattle.timeout.proofs.Memory.{right-is, sound}
 use Rattle.timeout.proofs.Sets.{adds, adds-absolute, fixed}
 use Rattle.timeout.proofs.Moves.{aborts, announces}
 
@@ -57,9 +58,9 @@ module _ (h h' : List ℕ) (r : ℤ) where
   refuses f e d = let z = kept-bad place f h [] d e in (z .0, z .1)
 
   module _ (k : 3 ≤ length h) (i : Inv (place .object h [])) where
-    pub active-refuses : (y : Timeout → Reply ℕ) → 0 < getD h 1 0 → Did place (λ t. set (y t) t) h [] r h' [] → (r ≡ ebusy) × (h' ≡ h)
+    pub active-refuses : (y : Timeout → Reply ℕ) → 0 < getD h 1 0 → Did place (λ t. arm (y t) t) h [] r h' [] → (r ≡ ebusy) × (h' ≡ h)
     active-refuses y b d =
-        let z = kept-no place (λ t. set (y t) t) h [] d (inv-formed h k i) (set-busy (getD h 0 0) (getD h 1 0) (getD h 2 0) (y (place .object h [])) b) in
+        let z = kept-no place (λ t. arm (y t) t) h [] d (inv-formed h k i) (set-busy (getD h 0 0) (getD h 1 0) (getD h 2 0) (y (place .object h [])) b) in
         (z .0, z .1)
 
     -- what holds of the operation holds of the memory

@@ -11,7 +11,7 @@ use Rattle.seq.specs.List.{All}
 use Rattle.thread.specs.Code.{ok, ebusy, einval}
 use Rattle.store.specs.Store.{Reply, refuse, answer, Started}
 use Rattle.store.specs.History.{refusal, Event, Run}
-use Rattle.timeout.specs.Timeout.{Timeout, never, atOnce, fires, set, add, addAbsolute, addForever, addNoWait, abort, announce, fresh, may}
+use Rattle.timeout.specs.Timeout.{Timeout, never, atOnce, fires, arm, add, addAbsolute, addForever, addNoWait, abort, announce, fresh, may}
 use Rattle.timeout.specs.Post.{place}
 
 -- the calls that change a timeout
@@ -83,7 +83,7 @@ pub record Promise (c : ℕ) (es : List (Event Call)) (t : Timeout) : Type 0 whe
   pub refused : (n : ℕ) → never ≤ t .clock + n → announce n t ≡ refuse einval
   pub fires : (n : ℕ) → t .clock + n < never → answer (announce n t) ≡ cond (firesAt (plan c es) (t .clock + n)) (pos 1) ok
   -- what is to fire keeps all other deadlines away; where nothing is, there is nothing to abort
-  pub busy : (d : ℕ) → plan c es ≡ due d → (y : Reply ℕ) → set y t ≡ refuse ebusy
+  pub busy : (d : ℕ) → plan c es ≡ due d → (y : Reply ℕ) → arm y t ≡ refuse ebusy
   pub nothing : plan c es ≡ idle → abort t ≡ refuse einval
 
 -- from any memory in which init made a timeout, h₀
@@ -92,7 +92,7 @@ Always =
     (c : ℕ) (h h₀ h' : List ℕ) (es : List (Event Call)) → Started place (may c) (fresh c) h [] ok h₀ [] → Run place does h₀ [] es h' []
     → (place .formed h' [] ≡ true) × Promise c es (place .object h' [])
 
--- an announcement
+-- the call is an announcement
 abbrev pub announced : Call → Bool
 announced (adding n) = false
 announced (addingAbsolute d) = false
@@ -101,13 +101,15 @@ announced addingNoWait = false
 announced aborting = false
 announced (announcing n) = true
 
--- an event is an announcement that was not refused; it is one that fired; it is any other call that was not refused
+-- an announcement that was not refused
 abbrev pub moves : Event Call → Bool
 moves e = cond (refusal (e .answer)) false (announced (e .call))
 
+-- one that fired
 abbrev pub fired : Event Call → Bool
 fired e = cond (moves e) (eqb (mag (e .answer)) 1) false
 
+-- an add or an abort that was not refused
 abbrev pub touches : Event Call → Bool
 touches e = cond (refusal (e .answer)) false (cond (announced (e .call)) false true)
 
@@ -121,7 +123,7 @@ abbrev pub reached : (deadline c : ℕ) → List (Event Call) → Bool
 reached deadline c [] = false
 reached deadline c (e ∷ es) = cond (moves e) (fires true deadline (c + ticked (e ∷ es))) (reached deadline c es)
 
--- a timeout that is active fires once it is reached, at that announcement, and never again: unless it is aborted, or fired and then added again
+-- while no add and no abort succeeds, a timeout that is active fires when it is reached, at that announcement, and not again
 abbrev pub Once : Type 0
 Once =
     (h h' : List ℕ) (es : List (Event Call)) → place .formed h [] ≡ true → 0 < getD h 1 0 → Run place does h [] es h' [] → All (λ e. touches e ≡ false) es
@@ -134,7 +136,13 @@ NeverReached = (c : ℕ) (es : List (Event Call)) → reached never c es ≡ fal
 abbrev pub AtOnceReached : Type 0
 AtOnceReached = (c : ℕ) (e : Event Call) (es : List (Event Call)) → moves e ≡ true → reached atOnce c (e ∷ es) ≡ true
 
--- and one that is not active does not fire, until it is added
+-- so what is never to fire does not fire
+abbrev pub Forever : Type 0
+Forever =
+    (h h' : List ℕ) (es : List (Event Call)) → place .formed h [] ≡ true → 0 < getD h 1 0 → getD h 0 0 ≡ never → Run place does h [] es h' []
+    → All (λ e. touches e ≡ false) es → firings es ≡ 0
+
+-- and one that is not active does not fire until it is added
 abbrev pub Quiet : Type 0
 Quiet =
     (h h' : List ℕ) (es : List (Event Call)) → place .formed h [] ≡ true → getD h 1 0 ≡ 0 → Run place does h [] es h' [] → All (λ e. touches e ≡ false) es → firings es ≡ 0

@@ -54,24 +54,24 @@ abbrev pub abortDecide : (active : Bool) → Bool
 abortDecide active = active
 
 -- the same decide for a whole timeout. It gets the deadline that is decided, unless it has one already
-abbrev pub set : (deadline : Reply ℕ) → Timeout → Reply Timeout
-set deadline t = cond (isActive t) (refuse ebusy) (carry (λ n. timeout n 1 (t .clock)) deadline)
+abbrev pub arm : (deadline : Reply ℕ) → Timeout → Reply Timeout
+arm deadline t = cond (isActive t) (refuse ebusy) (carry (λ n. timeout n 1 (t .clock)) deadline)
 
 abbrev pub add : (duration : ℕ) → Timeout → Reply Timeout
-add duration t = set (addDecide (t .clock) duration) t
+add duration t = arm (addDecide (t .clock) duration) t
 
 -- a deadline that is neither behind the clock nor never
 abbrev pub absolute : (deadline clock : ℕ) → Reply ℕ
 absolute deadline clock = cond (leb clock deadline) (cond (ltb deadline never) (accept deadline ok) (refuse einval)) (refuse einval)
 
 abbrev pub addAbsolute : (deadline : ℕ) → Timeout → Reply Timeout
-addAbsolute deadline t = set (absolute deadline (t .clock)) t
+addAbsolute deadline t = arm (absolute deadline (t .clock)) t
 
 abbrev pub addForever : Timeout → Reply Timeout
-addForever t = set (accept never ok) t
+addForever t = arm (accept never ok) t
 
 abbrev pub addNoWait : Timeout → Reply Timeout
-addNoWait t = set (accept atOnce ok) t
+addNoWait t = arm (accept atOnce ok) t
 
 abbrev pub abort : Timeout → Reply Timeout
 abort t = cond (abortDecide (isActive t)) (accept (timeout (t .deadline) 0 (t .clock)) ok) (refuse einval)

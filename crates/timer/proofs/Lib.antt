@@ -1,4 +1,5 @@
 pub mod Answers
 pub mod Histories
 pub mod Upstream
+pub mod Lemmas
 pub mod Example

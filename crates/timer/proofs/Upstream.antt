@@ -1,25 +1,22 @@
 -- Our contracts imply those of Gale's timer.rs. Assumes nothing.
-use mathlib.Core.Path.{_≡_, refl, sym, ap, subst, _∙_}
+use mathlib.Core.Path.{_≡_, refl, sym, subst, _∙_}
 use mathlib.Core.Bool.{Bool, true, false}
 use mathlib.Core.List.{List, []}
-use mathlib.Core.Logic.{_⊎_, inl, inr}
-use Prim.Native.Nat.{ℕ, zero, suc, _≤_, _<_}
+use mathlib.Core.Logic.{inl, inr}
+use Prim.Native.Nat.{ℕ, suc, _≤_, _<_}
 use native.Mathlib.Omega.{arith}
 use native.Mathlib.Numerals.{add-one}
 use lib.Dec.{eqb}
 use lib.IntN.{ℤ, pos, negsuc}
 use lib.ListN.{length, getD}
-use borrow.Author.Tests.{lt-ltb, le-leb, lt-leb, eqb-true, eqb-false}
+use borrow.Author.Tests.{le-leb, lt-leb, eqb-true, eqb-false}
 use Rattle.thread.specs.Code.{einval}
-use Rattle.thread.specs.Upstream.{Tells}
-use Rattle.store.specs.Store.{Reply, answer, left, Decided, Did, looks, Started}
-use Rattle.store.proofs.Laws.{answers, kept-bad, looks-is, looks-bad, decided, declined}
+use Rattle.store.specs.Store.{Reply, answer, left, Did, looks, Started}
+use Rattle.store.proofs.Laws.{answers, kept-bad, looks-is, looks-bad}
 use Rattle.store.proofs.Histories.{done}
-use Rattle.timer.specs.Timer.{Timer, timer, most, expireDecide, start, stop, expire, statusGet, count, ticks, runs, fresh}
+use Rattle.timer.specs.Timer.{Timer, timer, most, start, stop, expire, statusGet, count, ticks, runs, fresh}
 use Rattle.timer.specs.Post.{place}
-use Rattle.timer.specs.History.{does}
-use Rattle.timer.specs.Upstream.{Init, Start, Stop, Expire, StatusGet, IsRunning, PeriodGet, StatusPeek, ExpireDecide, Inductive, Roundtrip, StartResets, StopClears, OverflowRejected, Classified}
-use Rattle.timer.proofs.Answers.{decide-most, decide-once, decide-again}
+use Rattle.timer.specs.Upstream.{Init, Start, Stop, Expire, StatusGet, IsRunning, PeriodGet, StatusPeek}
 use Rattle.timer.proofs.Histories.{Expires, counts, stays, which}
 
 pub timer-init : (p : ℕ) (h h' : List ℕ) (r : ℤ) → 3 ≤ length h → Started place true (fresh p) h [] r h' [] → Init p (place .object h' [])
@@ -102,58 +99,3 @@ module _ (h h' : List ℕ) (r : ℤ) where
         go : (b : Bool) → eqb (getD h 2 0) 0 ≡ b → IsRunning (place .object h []) r
         go true e = inl (rw e at (seen runs d), eqb-true (getD h 2 0) 0 e)
         go false e = inr (rw e at (seen runs d), eqb-false (getD h 2 0) 0 e)
-
-module _ (s p m : ℕ) (r : ℤ) (m' : ℕ) (d : Decided (expireDecide s p) m r m') where
-  pub expire-decide : ExpireDecide s p m r m'
-  expire-decide =
-      record {
-        counted = λ b. go b (eqb p 0) refl .0 ∙ sym (add-one s);
-        stayed = λ e f. declined (decide-most s p e) d .1 ∙ f ∙ e;
-        periodic = λ b. go b (eqb p 0) refl .1;
-      }
-    where
-      go : s < most → (b : Bool) → eqb p 0 ≡ b → (m' ≡ suc s) × Tells (pos 1) (pos 0) r (0 < p)
-      go b true e =
-          let y = decided (decide-once s p b (eqb-true p 0 e)) d in
-          (y .1, inr (y .0, λ k. omega (arith, eqb-true p 0 e)))
-      go b false e =
-          let y = decided (decide-again s p b (eqb-false p 0 e)) d in
-          (y .1, inl (y .0, some p (eqb-false p 0 e)))
-        where
-          some : (p : ℕ) → (p ≡ 0 → ⊥) → 0 < p
-          some p f = omega arith
-
-  pub expire-decide-refuses : s ≡ most → (r ≡ negsuc 138) × (m' ≡ m)
-  expire-decide-refuses e = declined (decide-most s p e) d
-
-pub invariant-inductive : Inductive
-invariant-inductive = record { init = λ p h h' s. s .made refl .formed; calls = λ k h h' r e d. done place (does k) h [] e d .0 }
-
-pub expire-status-get-roundtrip : (s p x : ℕ) → s < most → Roundtrip s p x
-expire-status-get-roundtrip s p x b =
-    record {
-      number = rw (lt-ltb s most b) (sym (add-one s));
-      told = rw (lt-ltb s most b) (ap pos (sym (add-one s)));
-      cleared = refl;
-    }
-
-pub start-resets-status : StartResets
-start-resets-status t = refl
-
-pub stop-clears-state : StopClears
-stop-clears-state t = (refl, refl)
-
-pub overflow-rejected : OverflowRejected
-overflow-rejected p x = refl
-
-pub period-classification : (p : ℕ) → Classified p
-period-classification p =
-    record {
-      either = go p;
-      once = λ e s b. decide-once s p b e;
-      again = λ e s b. decide-again s p b (λ z. omega arith);
-    }
-  where
-    go : (p : ℕ) → (p ≡ 0) ⊎ (0 < p)
-    go zero = inl refl
-    go (suc p) = inr (omega arith)

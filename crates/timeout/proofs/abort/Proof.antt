@@ -5,7 +5,8 @@ use borrow.Author.Tests.{not-true, not-false}
 use Rattle.store.proofs.Laws.{did-bad}
 use Rattle.timeout.specs.Timeout as timeouts
 use Rattle.timeout.specs.Post.{place}
-use Rattle.timeout.proofs.Answers.{sound, abort-none, aborted}
+use Rattle.timeout.proofs.Memory.{sound}
+use Rattle.timeout.proofs.Answers.{abort-none, aborted}
 use mathlib.Core.List.{[]}
 use borrow.Author.Needs.{needs}
 use Rattle.timeout.proofs.abort.Statement.{statement}

@@ -1,15 +1,10 @@
 -- One law for each answer. Assumes nothing.
 use native.Mathlib.Omega.{arith}
 use mathlib.Core.Path.{sym, _∙_}
-use lib.ListN.{getD, length-set}
+use lib.ListN.{length-set}
 use borrow.Author.Tests.{not-true, not-false}
-use Rattle.thread.specs.Code.{ok}
-use Rattle.store.proofs.Laws.{did-bad}
-use Rattle.timeout.specs.Timeout as timeouts
-use Rattle.timeout.specs.Post.{place}
-use Rattle.timeout.proofs.Numbers.{too-late}
-use Rattle.timeout.proofs.Answers.{sound, deadline-bad, deadline-no, is-busy, is-refused, busy, refused, added}
-use mathlib.Core.List.{[]}
+use Rattle.timeout.proofs.Memory.{sound}
+use Rattle.timeout.proofs.Answers.{add-bad, add-busy, add-late, added}
 use borrow.Author.Needs.{needs}
 use Rattle.timeout.proofs.add.Statement.{statement}
 use Rattle.timeout.proofs.add.Tie as tie
@@ -21,7 +16,7 @@ same-length : tie.Need-same-length
 same-length c = search needs
 
 returns : tie.Need-returns
-returns c = (did-bad place (timeouts.add (c .before .before .before .before .args .duration)) (c .before .before .before .before .args .h .now) [] (sym (c .before .formed .ensures) ∙ not-true _ (c .if1 .taken)), deadline-bad (c .before .before .before .before .args .h .now) (sym (c .before .formed .ensures) ∙ not-true _ (c .if1 .taken)) (timeouts.add (c .before .before .before .before .args .duration)) (c .before .before .before .before .args .deadline .now))
+returns c = let a = c .before .before .before .before .args in add-bad (a .h .now) (sym (c .before .formed .ensures) ∙ not-true _ (c .if1 .taken)) (a .duration) (a .deadline .now)
 
 slice-read-if2 : tie.Need-slice-read-if2
 slice-read-if2 c = omega (arith, sound (c .before .before .before .before .before .args .h .now) (sym (c .before .before .formed .ensures) ∙ not-false _ (c .before .if1 .left)))
@@ -30,7 +25,7 @@ same-length-2 : tie.Need-same-length-2
 same-length-2 c = search needs
 
 returns-2 : tie.Need-returns-2
-returns-2 c = (busy (c .before .before .before .before .before .before .args .h .now) (sym (c .before .before .before .formed .ensures) ∙ not-false _ (c .before .before .if1 .left)) (λ t. timeouts.addDecide (t .clock) (c .before .before .before .before .before .before .args .duration)) (omega arith), deadline-no (c .before .before .before .before .before .before .args .h .now) (sym (c .before .before .before .formed .ensures) ∙ not-false _ (c .before .before .if1 .left)) (timeouts.add (c .before .before .before .before .before .before .args .duration)) (is-busy (c .before .before .before .before .before .before .args .h .now) (sym (c .before .before .before .formed .ensures) ∙ not-false _ (c .before .before .if1 .left)) (λ t. timeouts.addDecide (t .clock) (c .before .before .before .before .before .before .args .duration)) (omega arith)) (c .before .before .before .before .before .before .args .deadline .now))
+returns-2 c = let a = c .before .before .before .before .before .before .args in add-busy (a .h .now) (sym (c .before .before .before .formed .ensures) ∙ not-false _ (c .before .before .if1 .left)) (a .duration) (a .deadline .now) (omega arith)
 
 slice-read-clock : tie.Need-slice-read-clock
 slice-read-clock c = omega (arith, sound (c .before .before .before .before .before .before .before .args .h .now) (sym (c .before .before .before .before .formed .ensures) ∙ not-false _ (c .before .before .before .if1 .left)))
@@ -42,7 +37,7 @@ same-length-3 : tie.Need-same-length-3
 same-length-3 c = search needs
 
 returns-3 : tie.Need-returns-3
-returns-3 c = (refused (c .before .before .before .before .before .before .before .before .args .h .now) (sym (c .before .before .before .before .before .formed .ensures) ∙ not-false _ (c .before .before .before .before .if1 .left)) (λ t. timeouts.addDecide (t .clock) (c .before .before .before .before .before .before .before .before .args .duration)) (omega arith) (too-late ok (getD (c .before .before .before .before .before .before .before .before .args .h .now) 2 0) (c .before .before .before .before .before .before .before .before .args .duration) (omega arith)), deadline-no (c .before .before .before .before .before .before .before .before .args .h .now) (sym (c .before .before .before .before .before .formed .ensures) ∙ not-false _ (c .before .before .before .before .if1 .left)) (timeouts.add (c .before .before .before .before .before .before .before .before .args .duration)) (is-refused (c .before .before .before .before .before .before .before .before .args .h .now) (sym (c .before .before .before .before .before .formed .ensures) ∙ not-false _ (c .before .before .before .before .if1 .left)) (λ t. timeouts.addDecide (t .clock) (c .before .before .before .before .before .before .before .before .args .duration)) (omega arith) (too-late ok (getD (c .before .before .before .before .before .before .before .before .args .h .now) 2 0) (c .before .before .before .before .before .before .before .before .args .duration) (omega arith))) (c .before .before .before .before .before .before .before .before .args .deadline .now))
+returns-3 c = let a = c .before .before .before .before .before .before .before .before .args in add-late (a .h .now) (sym (c .before .before .before .before .before .formed .ensures) ∙ not-false _ (c .before .before .before .before .if1 .left)) (a .duration) (a .deadline .now) (omega arith) (omega arith)
 
 add-h : tie.Need-add-h
 add-h c = search needs
@@ -60,7 +55,7 @@ same-length-4 : tie.Need-same-length-4
 same-length-4 c = search needs
 
 returns-4 : tie.Need-returns-4
-returns-4 c = added (c .before .before .before .before .before .before .before .before .args .h .now) (sym (c .before .before .before .before .before .formed .ensures) ∙ not-false _ (c .before .before .before .before .if1 .left)) (c .before .before .before .before .before .before .before .before .args .duration) (omega arith) (omega arith) (c .before .before .before .before .before .before .before .before .args .deadline .now)
+returns-4 c = let a = c .before .before .before .before .before .before .before .before .args in added (a .h .now) (sym (c .before .before .before .before .before .formed .ensures) ∙ not-false _ (c .before .before .before .before .if1 .left)) (a .duration) (a .deadline .now) (omega arith) (omega arith)
 
 pub add-spec : {M : Type 1} → statement M
 add-spec =

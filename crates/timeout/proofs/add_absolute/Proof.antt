@@ -8,7 +8,8 @@ use Rattle.store.proofs.Laws.{did-bad}
 use Rattle.timeout.specs.Timeout as timeouts
 use Rattle.timeout.specs.Post.{place}
 use Rattle.timeout.proofs.Numbers.{right-ahead}
-use Rattle.timeout.proofs.Answers.{sound, busy, refused, was-set}
+use Rattle.timeout.proofs.Memory.{sound}
+use Rattle.timeout.proofs.Answers.{busy, refused, was-set}
 use mathlib.Core.List.{[]}
 use Rattle.timeout.proofs.Numbers.{absolute-behind, absolute-far, absolute-is}
 use borrow.Author.Needs.{needs}
@@ -22,7 +23,7 @@ same-length : tie.Need-same-length
 same-length c = search needs
 
 returns : tie.Need-returns
-returns c = did-bad place (timeouts.addAbsolute (c .before .before .before .before .args .deadline)) (c .before .before .before .before .args .h .now) [] (sym (c .before .formed .ensures) ∙ not-true _ (c .if1 .taken))
+returns c = let a = c .before .before .before .before .args in did-bad place (timeouts.addAbsolute (a .deadline)) (a .h .now) [] (sym (c .before .formed .ensures) ∙ not-true _ (c .if1 .taken))
 
 slice-read-if2 : tie.Need-slice-read-if2
 slice-read-if2 c = omega (arith, sound (c .before .before .before .before .before .args .h .now) (sym (c .before .before .formed .ensures) ∙ not-false _ (c .before .if1 .left)))
@@ -31,7 +32,7 @@ same-length-2 : tie.Need-same-length-2
 same-length-2 c = search needs
 
 returns-2 : tie.Need-returns-2
-returns-2 c = busy (c .before .before .before .before .before .before .args .h .now) (sym (c .before .before .before .formed .ensures) ∙ not-false _ (c .before .before .if1 .left)) (λ t. timeouts.absolute (c .before .before .before .before .before .before .args .deadline) (t .clock)) (omega arith)
+returns-2 c = let a = c .before .before .before .before .before .before .args in busy (a .h .now) (sym (c .before .before .before .formed .ensures) ∙ not-false _ (c .before .before .if1 .left)) (λ t. timeouts.absolute (a .deadline) (t .clock)) (omega arith)
 
 slice-read-if3 : tie.Need-slice-read-if3
 slice-read-if3 c = omega (arith, sound (c .before .before .before .before .before .before .before .args .h .now) (sym (c .before .before .before .before .formed .ensures) ∙ not-false _ (c .before .before .before .if1 .left)))
@@ -40,13 +41,13 @@ same-length-3 : tie.Need-same-length-3
 same-length-3 c = search needs
 
 returns-3 : tie.Need-returns-3
-returns-3 c = refused (c .before .before .before .before .before .before .before .before .args .h .now) (sym (c .before .before .before .before .before .formed .ensures) ∙ not-false _ (c .before .before .before .before .if1 .left)) (λ t. timeouts.absolute (c .before .before .before .before .before .before .before .before .args .deadline) (t .clock)) (omega arith) (absolute-behind (c .before .before .before .before .before .before .before .before .args .deadline) (getD (c .before .before .before .before .before .before .before .before .args .h .now) 2 0) (omega arith))
+returns-3 c = let a = c .before .before .before .before .before .before .before .before .args in refused (a .h .now) (sym (c .before .before .before .before .before .formed .ensures) ∙ not-false _ (c .before .before .before .before .if1 .left)) (λ t. timeouts.absolute (a .deadline) (t .clock)) (omega arith) (absolute-behind (a .deadline) (getD (a .h .now) 2 0) (omega arith))
 
 same-length-4 : tie.Need-same-length-4
 same-length-4 c = search needs
 
 returns-4 : tie.Need-returns-4
-returns-4 c = refused (c .before .before .before .before .before .before .before .before .before .args .h .now) (sym (c .before .before .before .before .before .before .formed .ensures) ∙ not-false _ (c .before .before .before .before .before .if1 .left)) (λ t. timeouts.absolute (c .before .before .before .before .before .before .before .before .before .args .deadline) (t .clock)) (omega arith) (absolute-far (c .before .before .before .before .before .before .before .before .before .args .deadline) (getD (c .before .before .before .before .before .before .before .before .before .args .h .now) 2 0) (omega arith))
+returns-4 c = let a = c .before .before .before .before .before .before .before .before .before .args in refused (a .h .now) (sym (c .before .before .before .before .before .before .formed .ensures) ∙ not-false _ (c .before .before .before .before .before .if1 .left)) (λ t. timeouts.absolute (a .deadline) (t .clock)) (omega arith) (absolute-far (a .deadline) (getD (a .h .now) 2 0) (omega arith))
 
 slice-write-h : tie.Need-slice-write-h
 slice-write-h c = omega (arith, sound (c .before .before .before .before .before .before .before .before .before .args .h .now) (sym (c .before .before .before .before .before .before .formed .ensures) ∙ not-false _ (c .before .before .before .before .before .if1 .left)))
@@ -58,7 +59,7 @@ same-length-5 : tie.Need-same-length-5
 same-length-5 c = search needs
 
 returns-5 : tie.Need-returns-5
-returns-5 c = was-set (c .before .before .before .before .before .before .before .before .before .args .h .now) (sym (c .before .before .before .before .before .before .formed .ensures) ∙ not-false _ (c .before .before .before .before .before .if1 .left)) (λ t. timeouts.absolute (c .before .before .before .before .before .before .before .before .before .args .deadline) (t .clock)) (omega arith) (absolute-is (c .before .before .before .before .before .before .before .before .before .args .deadline) (getD (c .before .before .before .before .before .before .before .before .before .args .h .now) 2 0) (omega arith) (omega arith)) (right-ahead (c .before .before .before .before .before .before .before .before .before .args .deadline) (getD (c .before .before .before .before .before .before .before .before .before .args .h .now) 2 0) (sound (c .before .before .before .before .before .before .before .before .before .args .h .now) (sym (c .before .before .before .before .before .before .formed .ensures) ∙ not-false _ (c .before .before .before .before .before .if1 .left)) .below) true (omega arith))
+returns-5 c = let a = c .before .before .before .before .before .before .before .before .before .args in let z = (sym (c .before .before .before .before .before .before .formed .ensures) ∙ not-false _ (c .before .before .before .before .before .if1 .left)) in was-set (a .h .now) z (λ t. timeouts.absolute (a .deadline) (t .clock)) (omega arith) (absolute-is (a .deadline) (getD (a .h .now) 2 0) (omega arith) (omega arith)) (right-ahead (a .deadline) (getD (a .h .now) 2 0) (sound (a .h .now) z .below) true (omega arith))
 
 pub add-absolute-spec : {M : Type 1} → statement M
 add-absolute-spec =

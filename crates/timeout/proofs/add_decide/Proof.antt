@@ -11,13 +11,13 @@ sub-if1 : tie.Need-sub-if1
 sub-if1 c = search needs
 
 returns : tie.Need-returns
-returns c = declines (c .before .args .deadline .now) (too-late ok (c .before .args .current-tick) (c .before .args .duration) (omega arith))
+returns c = let a = c .before .args in declines (a .deadline .now) (too-late ok (a .current-tick) (a .duration) (omega arith))
 
 add-deadline : tie.Need-add-deadline
 add-deadline c = search needs
 
 returns-2 : tie.Need-returns-2
-returns-2 c = decides (c .before .args .deadline .now) (in-time ok (c .before .args .current-tick) (c .before .args .duration) (omega arith))
+returns-2 c = let a = c .before .args in decides (a .deadline .now) (in-time ok (a .current-tick) (a .duration) (omega arith))
 
 pub add-decide-spec : {M : Type 1} → statement M
 add-decide-spec = tie.close (tie.spec sub-if1 returns add-deadline returns-2)

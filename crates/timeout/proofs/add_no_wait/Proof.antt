@@ -9,7 +9,8 @@ use Rattle.store.proofs.Laws.{did-bad}
 use Rattle.timeout.specs.Timeout as timeouts
 use Rattle.timeout.specs.Post.{place}
 use Rattle.timeout.proofs.Numbers.{right-at-once}
-use Rattle.timeout.proofs.Answers.{sound, busy, was-set}
+use Rattle.timeout.proofs.Memory.{sound}
+use Rattle.timeout.proofs.Answers.{busy, was-set}
 use mathlib.Core.List.{[]}
 use Rattle.store.specs.Store.{accept}
 use borrow.Author.Needs.{needs}
@@ -44,7 +45,7 @@ same-length-3 : tie.Need-same-length-3
 same-length-3 c = search needs
 
 returns-3 : tie.Need-returns-3
-returns-3 c = was-set (c .before .before .before .before .before .before .args .h .now) (sym (c .before .before .before .formed .ensures) ∙ not-false _ (c .before .before .if1 .left)) (λ t. accept timeouts.atOnce ok) (omega arith) refl (right-at-once timeouts.atOnce (getD (c .before .before .before .before .before .before .args .h .now) 2 0) (sound (c .before .before .before .before .before .before .args .h .now) (sym (c .before .before .before .formed .ensures) ∙ not-false _ (c .before .before .if1 .left)) .below) true refl)
+returns-3 c = let a = c .before .before .before .before .before .before .args in let z = (sym (c .before .before .before .formed .ensures) ∙ not-false _ (c .before .before .if1 .left)) in was-set (a .h .now) z (λ t. accept timeouts.atOnce ok) (omega arith) refl (right-at-once timeouts.atOnce (getD (a .h .now) 2 0) (sound (a .h .now) z .below) true refl)
 
 pub add-no-wait-spec : {M : Type 1} → statement M
 add-no-wait-spec =

@@ -6,7 +6,8 @@ use borrow.Author.Tests.{not-true, not-false}
 use Rattle.store.proofs.Laws.{did-bad}
 use Rattle.timeout.specs.Timeout as timeouts
 use Rattle.timeout.specs.Post.{place}
-use Rattle.timeout.proofs.Answers.{sound, announce-none, announce-idle, announce-early, announce-fires}
+use Rattle.timeout.proofs.Memory.{sound}
+use Rattle.timeout.proofs.Answers.{announce-none, announce-idle, announce-early, announce-fires}
 use mathlib.Core.List.{[]}
 use borrow.Author.Needs.{needs}
 use Rattle.timeout.proofs.announce.Statement.{statement}
@@ -19,7 +20,7 @@ same-length : tie.Need-same-length
 same-length c = search needs
 
 returns : tie.Need-returns
-returns c = did-bad place (timeouts.announce (c .before .before .before .before .args .ticks)) (c .before .before .before .before .args .h .now) [] (sym (c .before .formed .ensures) ∙ not-true _ (c .if1 .taken))
+returns c = let a = c .before .before .before .before .args in did-bad place (timeouts.announce (a .ticks)) (a .h .now) [] (sym (c .before .formed .ensures) ∙ not-true _ (c .if1 .taken))
 
 slice-read-clock : tie.Need-slice-read-clock
 slice-read-clock c = omega (arith, sound (c .before .before .before .before .before .args .h .now) (sym (c .before .before .formed .ensures) ∙ not-false _ (c .before .if1 .left)))
@@ -31,10 +32,10 @@ same-length-2 : tie.Need-same-length-2
 same-length-2 c = search needs
 
 returns-2 : tie.Need-returns-2
-returns-2 c = announce-none (c .before .before .before .before .before .before .args .h .now) (sym (c .before .before .before .formed .ensures) ∙ not-false _ (c .before .before .if1 .left)) (c .before .before .before .before .before .before .args .ticks) (omega arith)
+returns-2 c = let a = c .before .before .before .before .before .before .args in announce-none (a .h .now) (sym (c .before .before .before .formed .ensures) ∙ not-false _ (c .before .before .if1 .left)) (a .ticks) (omega arith)
 
 add-n : tie.Need-add-n
-add-n c = search needs
+add-n c = omega (arith, sound (c .before .before .before .before .before .before .args .h .now) (sym (c .before .before .before .formed .ensures) ∙ not-false _ (c .before .before .if1 .left)))
 
 slice-read-due : tie.Need-slice-read-due
 slice-read-due c = omega (arith, sound (c .before .before .before .before .before .before .before .args .h .now) (sym (c .before .before .before .before .formed .ensures) ∙ not-false _ (c .before .before .before .if1 .left)))
@@ -49,13 +50,13 @@ same-length-3 : tie.Need-same-length-3
 same-length-3 c = search needs
 
 returns-3 : tie.Need-returns-3
-returns-3 c = announce-idle (c .before .before .before .before .before .before .before .before .before .args .h .now) (sym (c .before .before .before .before .before .before .formed .ensures) ∙ not-false _ (c .before .before .before .before .before .if1 .left)) (c .before .before .before .before .before .before .before .before .before .args .ticks) (omega arith) (omega arith)
+returns-3 c = let a = c .before .before .before .before .before .before .before .before .before .args in announce-idle (a .h .now) (sym (c .before .before .before .before .before .before .formed .ensures) ∙ not-false _ (c .before .before .before .before .before .if1 .left)) (a .ticks) (omega arith) (omega arith)
 
 same-length-4 : tie.Need-same-length-4
 same-length-4 c = search needs
 
 returns-4 : tie.Need-returns-4
-returns-4 c = announce-early (c .before .before .before .before .before .before .before .before .before .before .args .h .now) (sym (c .before .before .before .before .before .before .before .formed .ensures) ∙ not-false _ (c .before .before .before .before .before .before .if1 .left)) (c .before .before .before .before .before .before .before .before .before .before .args .ticks) (omega arith) (omega arith)
+returns-4 c = let a = c .before .before .before .before .before .before .before .before .before .before .args in announce-early (a .h .now) (sym (c .before .before .before .before .before .before .before .formed .ensures) ∙ not-false _ (c .before .before .before .before .before .before .if1 .left)) (a .ticks) (omega arith) (omega arith)
 
 slice-write-h-2 : tie.Need-slice-write-h-2
 slice-write-h-2 c = simp length-set (omega (arith, sound (c .before .before .before .before .before .before .before .before .before .before .args .h .now) (sym (c .before .before .before .before .before .before .before .formed .ensures) ∙ not-false _ (c .before .before .before .before .before .before .if1 .left))))
@@ -64,7 +65,7 @@ same-length-5 : tie.Need-same-length-5
 same-length-5 c = search needs
 
 returns-5 : tie.Need-returns-5
-returns-5 c = announce-fires (c .before .before .before .before .before .before .before .before .before .before .args .h .now) (sym (c .before .before .before .before .before .before .before .formed .ensures) ∙ not-false _ (c .before .before .before .before .before .before .if1 .left)) (c .before .before .before .before .before .before .before .before .before .before .args .ticks) (omega arith) (omega arith) (omega arith)
+returns-5 c = let a = c .before .before .before .before .before .before .before .before .before .before .args in announce-fires (a .h .now) (sym (c .before .before .before .before .before .before .before .formed .ensures) ∙ not-false _ (c .before .before .before .before .before .before .if1 .left)) (a .ticks) (omega arith) (omega arith) (omega arith)
 
 pub announce-spec : {M : Type 1} → statement M
 announce-spec =

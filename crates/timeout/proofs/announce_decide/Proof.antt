@@ -12,25 +12,25 @@ right-requires : tie.Need-right-requires
 right-requires c κs = search needs
 
 returns : tie.Need-returns
-returns c = declines (c .before .before .args .new-tick .now) (decides-wrong (c .before .before .args .active) (c .before .before .args .deadline) (c .before .before .args .current-tick) (c .before .before .args .ticks) (sym (c .before .right .ensures) ∙ not-true _ (c .if1 .taken)))
+returns c = let a = c .before .before .args in declines (a .new-tick .now) (decides-wrong (a .active) (a .deadline) (a .current-tick) (a .ticks) (sym (c .before .right .ensures) ∙ not-true _ (c .if1 .taken)))
 
 sub-if2 : tie.Need-sub-if2
 sub-if2 c = search needs
 
 returns-2 : tie.Need-returns-2
-returns-2 c = declines (c .before .before .before .args .new-tick .now) (decides-right (c .before .before .before .args .active) (c .before .before .before .args .deadline) (c .before .before .before .args .current-tick) (c .before .before .before .args .ticks) (sym (c .before .before .right .ensures) ∙ not-false _ (c .before .if1 .left)) ∙ announces-none (c .before .before .before .args .active) (c .before .before .before .args .deadline) (c .before .before .before .args .current-tick) (c .before .before .before .args .ticks) (omega arith))
+returns-2 c = let a = c .before .before .before .args in declines (a .new-tick .now) (decides-right (a .active) (a .deadline) (a .current-tick) (a .ticks) (sym (c .before .before .right .ensures) ∙ not-false _ (c .before .if1 .left)) ∙ announces-none (a .active) (a .deadline) (a .current-tick) (a .ticks) (omega arith))
 
 add-n : tie.Need-add-n
 add-n c = search needs
 
 returns-3 : tie.Need-returns-3
-returns-3 c = decides (c .before .before .before .before .args .new-tick .now) (decides-right (c .before .before .before .before .args .active) (c .before .before .before .before .args .deadline) (c .before .before .before .before .args .current-tick) (c .before .before .before .before .args .ticks) (sym (c .before .before .before .right .ensures) ∙ not-false _ (c .before .before .if1 .left)) ∙ announces-quiet (c .before .before .before .before .args .active) (c .before .before .before .before .args .deadline) (c .before .before .before .before .args .current-tick) (c .before .before .before .before .args .ticks) (omega arith) (fires-idle (c .before .before .before .before .args .active) (c .before .before .before .before .args .deadline) _ (not-true _ (c .if3 .taken))))
+returns-3 c = let a = c .before .before .before .before .args in decides (a .new-tick .now) (decides-right (a .active) (a .deadline) (a .current-tick) (a .ticks) (sym (c .before .before .before .right .ensures) ∙ not-false _ (c .before .before .if1 .left)) ∙ announces-quiet (a .active) (a .deadline) (a .current-tick) (a .ticks) (omega arith) (fires-idle (a .active) (a .deadline) _ (not-true _ (c .if3 .taken))))
 
 returns-4 : tie.Need-returns-4
-returns-4 c = decides (c .before .before .before .before .before .args .new-tick .now) (decides-right (c .before .before .before .before .before .args .active) (c .before .before .before .before .before .args .deadline) (c .before .before .before .before .before .args .current-tick) (c .before .before .before .before .before .args .ticks) (sym (c .before .before .before .before .right .ensures) ∙ not-false _ (c .before .before .before .if1 .left)) ∙ announces-quiet (c .before .before .before .before .before .args .active) (c .before .before .before .before .before .args .deadline) (c .before .before .before .before .before .args .current-tick) (c .before .before .before .before .before .args .ticks) (omega arith) (fires-early (c .before .before .before .before .before .args .active) (c .before .before .before .before .before .args .deadline) _ (omega arith)))
+returns-4 c = let a = c .before .before .before .before .before .args in decides (a .new-tick .now) (decides-right (a .active) (a .deadline) (a .current-tick) (a .ticks) (sym (c .before .before .before .before .right .ensures) ∙ not-false _ (c .before .before .before .if1 .left)) ∙ announces-quiet (a .active) (a .deadline) (a .current-tick) (a .ticks) (omega arith) (fires-early (a .active) (a .deadline) _ (omega arith)))
 
 returns-5 : tie.Need-returns-5
-returns-5 c = decides (c .before .before .before .before .before .args .new-tick .now) (decides-right (c .before .before .before .before .before .args .active) (c .before .before .before .before .before .args .deadline) (c .before .before .before .before .before .args .current-tick) (c .before .before .before .before .before .args .ticks) (sym (c .before .before .before .before .right .ensures) ∙ not-false _ (c .before .before .before .if1 .left)) ∙ announces-fires (c .before .before .before .before .before .args .active) (c .before .before .before .before .before .args .deadline) (c .before .before .before .before .before .args .current-tick) (c .before .before .before .before .before .args .ticks) (omega arith) (fires-due (c .before .before .before .before .before .args .active) (c .before .before .before .before .before .args .deadline) _ (not-false _ (c .before .if3 .left)) (omega arith) (omega arith)))
+returns-5 c = let a = c .before .before .before .before .before .args in decides (a .new-tick .now) (decides-right (a .active) (a .deadline) (a .current-tick) (a .ticks) (sym (c .before .before .before .before .right .ensures) ∙ not-false _ (c .before .before .before .if1 .left)) ∙ announces-fires (a .active) (a .deadline) (a .current-tick) (a .ticks) (omega arith) (fires-due (a .active) (a .deadline) _ (not-false _ (c .before .if3 .left)) (omega arith) (omega arith)))
 
 pub announce-decide-spec : {M : Type 1} → statement M
 announce-decide-spec =

@@ -7,10 +7,10 @@ use Rattle.timeout.proofs.init.Statement.{statement}
 use Rattle.timeout.proofs.init.Tie as tie
 
 returns : tie.Need-returns
-returns c = init-short (c .before .args .h .now) (c .before .args .current-tick) (omega arith)
+returns c = let a = c .before .args in init-short (a .h .now) (a .current-tick) (omega arith)
 
 returns-2 : tie.Need-returns-2
-returns-2 c = init-never (c .before .before .args .h .now) (c .before .before .args .current-tick) (omega arith) (omega arith)
+returns-2 c = let a = c .before .before .args in init-never (a .h .now) (a .current-tick) (omega arith) (omega arith)
 
 slice-write-h : tie.Need-slice-write-h
 slice-write-h c = search needs
@@ -25,7 +25,7 @@ same-length : tie.Need-same-length
 same-length c = search needs
 
 returns-3 : tie.Need-returns-3
-returns-3 c = init-made (c .before .before .args .h .now) (c .before .before .args .current-tick) (omega arith) (omega arith)
+returns-3 c = let a = c .before .before .args in init-made (a .h .now) (a .current-tick) (omega arith) (omega arith)
 
 pub init-spec : {M : Type 1} → statement M
 init-spec =

@@ -7,16 +7,16 @@ use Rattle.timeout.proofs.until.Statement.{statement}
 use Rattle.timeout.proofs.until.Tie as tie
 
 returns : tie.Need-returns
-returns c = sym (until-never (c .before .args .tick) (c .before .args .clock) (omega arith))
+returns c = let a = c .before .args in sym (until-never (a .tick) (a .clock) (omega arith))
 
 sub-result : tie.Need-sub-result
 sub-result c = search needs
 
 returns-2 : tie.Need-returns-2
-returns-2 c = sym (until-is (c .before .before .args .tick) (c .before .before .args .clock) (λ e. omega arith))
+returns-2 c = let a = c .before .before .args in sym (until-is (a .tick) (a .clock) (λ e. omega arith))
 
 returns-3 : tie.Need-returns-3
-returns-3 c = omega (arith, until-is (c .before .before .args .tick) (c .before .before .args .clock) (λ e. omega arith))
+returns-3 c = let a = c .before .before .args in omega (arith, until-is (a .tick) (a .clock) (λ e. omega arith))
 
 pub until-spec : {M : Type 1} → statement M
 until-spec = tie.close (tie.spec returns sub-result returns-2 returns-3)

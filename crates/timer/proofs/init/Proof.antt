@@ -7,7 +7,7 @@ use Rattle.timer.proofs.init.Statement.{statement}
 use Rattle.timer.proofs.init.Tie as tie
 
 returns : tie.Need-returns
-returns c = init-short (c .before .args .h .now) (omega arith) (c .before .args .period)
+returns c = let a = c .before .args in init-short (a .h .now) (omega arith) (a .period)
 
 slice-write-h : tie.Need-slice-write-h
 slice-write-h c = search needs
@@ -22,7 +22,7 @@ same-length : tie.Need-same-length
 same-length c = search needs
 
 returns-2 : tie.Need-returns-2
-returns-2 c = init-made (c .before .args .h .now) (omega arith) (c .before .args .period)
+returns-2 c = let a = c .before .args in init-made (a .h .now) (omega arith) (a .period)
 
 pub init-spec : {M : Type 1} → statement M
 init-spec =

@@ -15,10 +15,10 @@ shared-slice-read-if2 : tie.Need-shared-slice-read-if2
 shared-slice-read-if2 c = search needs
 
 returns-2 : tie.Need-returns-2
-returns-2 c = sym (zero-no (getD (c .before .before .before .args .h .now) 2 0) (omega arith)) ∙ seen (c .before .before .before .args .h .now) (omega arith) timer.runs
+returns-2 c = let a = c .before .before .before .args in sym (zero-no (getD (a .h .now) 2 0) (omega arith)) ∙ seen (a .h .now) (omega arith) timer.runs
 
 returns-3 : tie.Need-returns-3
-returns-3 c = sym (other-yes (getD (c .before .before .before .args .h .now) 2 0) (λ e. omega arith)) ∙ seen (c .before .before .before .args .h .now) (omega arith) timer.runs
+returns-3 c = let a = c .before .before .before .args in sym (other-yes (getD (a .h .now) 2 0) (λ e. omega arith)) ∙ seen (a .h .now) (omega arith) timer.runs
 
 pub is-running-spec : {M : Type 1} → statement M
 is-running-spec = tie.close (tie.spec returns shared-slice-read-if2 returns-2 returns-3)
