@@ -11,17 +11,17 @@ use lib.IntN.{pos}
 use lib.ListN.{length, take, drop, getD, set}
 use lib.Seq.{paste, length-paste}
 use Rattle.thread.specs.Code.{ok, einval, enomsg}
-use Rattle.store.specs.Store.{Reply, accept, answer, carry, reply, Did, handed, Filled}
+use Rattle.store.specs.Store.{Reply, accept, answer, Did, looks, handed, Filled}
 use Rattle.store.proofs.Laws.{did-bad, did-no, did-yes}
 use Rattle.ring_buf.specs.Ring.{wrap, turn, ring, leave}
 use Rattle.ring_buf.proofs.Rings.{wrap-below, turn-paste, appended, left, led, drop-within}
 use Rattle.msgq.specs.Messages.{slots}
-use Rattle.msgq.specs.Msgq.{Msgq, having, max, used, readIdx, peeks, given, put, putFront, get, peek, seen, purge}
+use Rattle.msgq.specs.Msgq.{Msgq, having, given, put, putFront, get, peek, seen, purge}
 use Rattle.msgq.specs.Post.{sound, takes, held, messages}
 use Rattle.msgq.proofs.Slots.{slot-room, slot-paste}
 use Rattle.msgq.proofs.Headers.{Sound}
 use Rattle.msgq.proofs.Places.{becomes, set-used, set-both}
-use Rattle.msgq.proofs.Looks as looks
+use Rattle.msgq.proofs.Looks as view
 
 module _ (h b : List ℕ) where
   -- a malformed queue, or a message of another size
@@ -33,8 +33,12 @@ module _ (h b : List ℕ) where
         go true x y = did-no messages (λ (q : Msgq). given (eqb k (q .size)) (g q)) h b x (rw y)
         go false x y = did-bad messages (λ (q : Msgq). given (eqb k (q .size)) (g q)) h b x
 
-    pub peek-size : (i : ℕ) → einval ≡ answer (reply messages (peek k i) h b)
-    peek-size i = did-size (λ (q : Msgq). carry (λ (x : ℕ). q) (peeks (readIdx q) (used q) (max q) i)) .code
+    pub peek-size : (i : ℕ) → einval ≡ looks messages (λ (q : Msgq). answer (peek k i q)) h b
+    peek-size i = go (sound h b) refl e
+      where
+        go : (x : Bool) → sound h b ≡ x → cond x (eqb k (getD h 3 0)) false ≡ false → einval ≡ looks messages (λ (q : Msgq). answer (peek k i q)) h b
+        go true x y = rw (x, y)
+        go false x y = rw x
 
     pub handed-size : (i : ℕ) (o : List ℕ) → Filled (handed messages (seen k i) h b) o o
     handed-size i o = go (sound h b) refl e
@@ -60,13 +64,13 @@ module _ (h b : List ℕ) where
     S = slots z c b
 
     good : sound h b ≡ true
-    good = looks.good h b s
+    good = view.good h b s
 
     many : length S ≡ c
-    many = looks.many h b s
+    many = view.many h b s
 
     hold : length (take n (turn t S)) ≡ n
-    hold = looks.hold h b s
+    hold = view.hold h b s
 
     -- no room
     module _ (m : List ℕ) where

@@ -10,14 +10,14 @@ use Rattle.store.specs.Store.{Reply, accept, refuse}
 use Rattle.ring_buf.specs.Ring.{wrap}
 use Rattle.ring_buf.specs.Bytes.{numbers}
 use Rattle.msgq.specs.Msgq.{Numbers, counts, stored, wakesReader, isRead, wakesWriter, pends}
-use Rattle.msgq.specs.Post.{sane, putDecision, getDecision, putFrontDecision, peekDecision, Decided, Found}
+use Rattle.msgq.specs.Post.{sane, putDecision, getDecision, putFrontDecision, peekDecision, Settled}
 use Rattle.msgq.proofs.Headers.{within, sane-within}
 
 module _ (y : Reply Numbers) (i n : ℕ) where
-  pub decided-no : {r : ℤ} → y ≡ refuse r → Decided y i n r i n
+  pub decided-no : {r : ℤ} → y ≡ refuse r → Settled y i n r i n
   decided-no e = rw e (record { code = refl; idx = refl; used = refl })
 
-  pub decided : {i' n' : ℕ} {r : ℤ} → y ≡ accept (counts i' n') r → Decided y i n r i' n'
+  pub decided : {i' n' : ℕ} {r : ℤ} → y ≡ accept (counts i' n') r → Settled y i n r i' n'
   decided e = rw e (record { code = refl; idx = refl; used = refl })
 
 module _ (i n c : ℕ) (reader k : Bool) where
@@ -63,12 +63,12 @@ module _ (t n c : ℕ) where
   pub lead-stores : (a : ℕ) → numbers c t n ≡ true → (n ≡ c → ⊥) → a ≡ wrap (t + (c - 1)) c → putFrontDecision t n c ≡ accept (counts a (n + 1)) ok
   lead-stores a s e v = rw (s, lt-ltb n c (omega (arith, within c t n s .used)), v)
 
-  module _ (i x : ℕ) where
-    pub found-insane : numbers c t n ≡ false → Found (peekDecision t n c i) x einval x
-    found-insane e = rw e (record { code = refl; slot = refl })
+  module _ (i : ℕ) where
+    pub peek-insane : numbers c t n ≡ false → peekDecision t n c i ≡ refuse einval
+    peek-insane e = rw e
 
-    pub found-past : numbers c t n ≡ true → n ≤ i → Found (peekDecision t n c i) x enomsg x
-    found-past s e = rw (s, le-ltb i n e) (record { code = refl; slot = refl })
+    pub peek-past : numbers c t n ≡ true → n ≤ i → peekDecision t n c i ≡ refuse enomsg
+    peek-past s e = rw (s, le-ltb i n e)
 
-    pub found : (a : ℕ) → numbers c t n ≡ true → i < n → a ≡ wrap (t + i) c → Found (peekDecision t n c i) x ok a
-    found a s e v = rw (s, lt-ltb i n e, v) (record { code = refl; slot = refl })
+    pub peek-finds : (a : ℕ) → numbers c t n ≡ true → i < n → a ≡ wrap (t + i) c → peekDecision t n c i ≡ accept a ok
+    peek-finds a s e v = rw (s, lt-ltb i n e, v)

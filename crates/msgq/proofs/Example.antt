@@ -3,15 +3,18 @@ use mathlib.Core.Path.{_≡_, refl}
 use mathlib.Core.Bool.{true, false}
 use mathlib.Core.List.{List, [], _∷_, _++_}
 use Prim.Native.Nat.{ℕ}
+use lib.IntN.{ℤ, pos}
 use lib.ListN.{getD}
 use Rattle.thread.specs.Code.{ok, enomsg, einval}
-use Rattle.store.specs.Store.{accept, refuse, answer}
-use Rattle.ring_buf.specs.Ring.{wrap, turn}
+use Rattle.store.specs.Store.{accept, refuse, answer, left}
+use Rattle.ring_buf.specs.Ring.{wrap, turn, append, lead, leave}
 use Rattle.msgq.specs.Messages.{slots}
-use Rattle.msgq.specs.Msgq.{Msgq, counts, wakesReader, wakesWriter, pends, max, used, readIdx, writeIdx}
+use Rattle.msgq.specs.Msgq.{Msgq, having, put, counts, wakesReader, wakesWriter, pends, max, used, readIdx, writeIdx}
 use Rattle.msgq.specs.Post.{sound, held, new, may, putDecision, getDecision, putFrontDecision, peekDecision}
-use Rattle.msgq.specs.History.{Call, put, putFront, get, purge, does, nothing, State, run}
-use Rattle.msgq.specs.HandOver.{Waited, Event, putting, getting, stored, ends}
+use Rattle.store.specs.History.{Step, Ran, fresh, ran}
+use Rattle.msgq.specs.History.{Call, putting, puttingFront, getting, purging, does, gives, sent, got, line}
+use Rattle.msgq.specs.HandOver.{Waited, Event, stored, ends}
+use Rattle.msgq.specs.HandOver as event
 
 -- three slots of two bytes, and a byte that is not the queue's; the first message stands in the last slot
 abbrev header : List ℕ
@@ -27,7 +30,7 @@ pub messages-are : (sound header buffer ≡ true) × (q .ring .held ≡ (5 ∷ 6
 unfolding slots turn wrap
 messages-are = (refl, refl, refl, refl)
 
-pub put-is : (stored (7 ∷ 8 ∷ []) q .ring .held ≡ (5 ∷ 6 ∷ []) ∷ (1 ∷ 2 ∷ []) ∷ (7 ∷ 8 ∷ []) ∷ []) × (answer (does (put (7 ∷ 8 ∷ [])) (stored (7 ∷ 8 ∷ []) q)) ≡ enomsg) × (answer (does (put (7 ∷ [])) q) ≡ einval)
+pub put-is : (stored (7 ∷ 8 ∷ []) q .ring .held ≡ (5 ∷ 6 ∷ []) ∷ (1 ∷ 2 ∷ []) ∷ (7 ∷ 8 ∷ []) ∷ []) × (answer (put (7 ∷ 8 ∷ []) (stored (7 ∷ 8 ∷ []) q)) ≡ enomsg) × (answer (put (7 ∷ []) q) ≡ einval)
 unfolding slots turn wrap
 put-is = (refl, refl, refl)
 
@@ -42,23 +45,34 @@ too-many = (refl, refl)
 
 -- ---- a history: two slots of one byte
 
-abbrev after : List Call → State
-after ks = run (record { queue = new 1 2 (0 ∷ 0 ∷ []); log = nothing }) ks
-
 abbrev m : ℕ → List ℕ
 m x = x ∷ []
 
--- 1 and 2 are put, 3 finds no room; 1 comes out; 4 goes before 2; two gets, and one that finds nothing
-abbrev calls : List Call
-calls = put (m 1) ∷ put (m 2) ∷ put (m 3) ∷ get 1 ∷ putFront (m 4) ∷ get 1 ∷ []
+abbrev after : Call → ℤ → List ℕ → Step Call
+after k a o = record { call = k; answer = a; out = o }
 
-pub logged : (after calls .log .sent ≡ m 1 ∷ m 2 ∷ []) × (after calls .log .got ≡ m 1 ∷ m 4 ∷ []) × (after calls .log .line ≡ m 1 ∷ m 4 ∷ m 2 ∷ [])
-    × (after calls .queue .ring .held ≡ m 2 ∷ [])
+-- 1 and 2 are put, 3 finds no room; 1 comes out; 4 goes before 2, and comes out. The last stands first
+abbrev steps : List (Step Call)
+steps =
+    after (getting 1) ok (m 4) ∷ after (puttingFront (m 4)) ok [] ∷ after (getting 1) ok (m 1) ∷ after (putting (m 3)) enomsg [] ∷ after (putting (m 2)) ok [] ∷ after (putting (m 1)) ok [] ∷ []
+
+abbrev now-held : Msgq
+now-held = having (leave 1 (lead (m 4) (leave 1 (append (m 2 ∷ []) (append (m 1 ∷ []) (new 1 2 (0 ∷ 0 ∷ []) .ring)))))) (new 1 2 (0 ∷ 0 ∷ []))
+
+pub happened : Ran does gives (new 1 2 (0 ∷ 0 ∷ [])) steps now-held
+unfolding slots turn wrap
+happened =
+    ran {k = getting 1} (m 0) (m 4)
+    (ran {k = puttingFront (m 4)} [] []
+    (ran {k = getting 1} (m 0) (m 1)
+    (ran {k = putting (m 3)} [] [] (ran {k = putting (m 2)} [] [] (ran {k = putting (m 1)} [] [] fresh refl) refl) refl) refl) refl) refl
+
+pub logged : (sent steps ≡ m 1 ∷ m 2 ∷ []) × (got steps ≡ m 1 ∷ m 4 ∷ []) × (line steps ≡ m 1 ∷ m 4 ∷ m 2 ∷ []) × (now-held .ring .held ≡ m 2 ∷ [])
 unfolding slots turn wrap
 logged = (refl, refl, refl, refl)
 
-pub purged : (after (calls ++ purge ∷ []) .log .line ≡ m 1 ∷ m 4 ∷ []) × (used (after (calls ++ purge ∷ []) .queue) ≡ 0)
-    × (readIdx (after (calls ++ purge ∷ []) .queue) ≡ writeIdx (after (calls ++ purge ∷ []) .queue)) × (answer (does (get 1) (after (calls ++ purge ∷ []) .queue)) ≡ enomsg)
+pub purged : (line (after purging (pos 1) [] ∷ steps) ≡ m 1 ∷ m 4 ∷ []) × (answer (does purging now-held) ≡ pos 1) × (used (left (does purging now-held) now-held) ≡ 0)
+    × (readIdx (left (does purging now-held) now-held) ≡ writeIdx now-held)
 unfolding slots turn wrap
 purged = (refl, refl, refl, refl)
 
@@ -70,9 +84,9 @@ with es = ends (record { queue = new 1 2 (0 ∷ 0 ∷ []); readers = 0; writers 
 -- a reader waits, and 1 is handed to it; 2 and 3 are stored, 4 and 5 wait for room, 6 would not wait; a get lets 4 in
 abbrev events : List Event
 events =
-    getting false ∷ putting (m 1) false ∷ putting (m 2) true ∷ putting (m 3) true ∷ putting (m 4) false ∷ putting (m 5) false ∷ putting (m 6) true ∷ getting true ∷ []
+    event.getting false ∷ event.putting (m 1) false ∷ event.putting (m 2) true ∷ event.putting (m 3) true ∷ event.putting (m 4) false ∷ event.putting (m 5) false ∷ event.putting (m 6) true ∷ event.getting true ∷ []
 
-pub waited : (with (getting false ∷ []) .readers ≡ 1) × (with (getting false ∷ putting (m 1) false ∷ []) .got ≡ m 1 ∷ []) × (with events .got ≡ m 1 ∷ m 2 ∷ [])
+pub waited : (with (event.getting false ∷ []) .readers ≡ 1) × (with (event.getting false ∷ event.putting (m 1) false ∷ []) .got ≡ m 1 ∷ []) × (with events .got ≡ m 1 ∷ m 2 ∷ [])
     × (with events .queue .ring .held ≡ m 3 ∷ m 4 ∷ []) × (with events .writers ≡ m 5 ∷ []) × (with events .sent ≡ m 1 ∷ m 2 ∷ m 3 ∷ m 4 ∷ m 5 ∷ [])
 unfolding slots turn wrap
 waited = (refl, refl, refl, refl, refl, refl)
@@ -86,7 +100,7 @@ decided = (refl, refl, refl, refl, refl, refl, refl, refl)
 
 -- a reader that waits while 1 is held. If 2 were handed to it, 2 would come out before 1; a put and a get give it 1
 abbrev one-held : Msgq
-one-held = with (putting (m 1) true ∷ []) .queue
+one-held = with (event.putting (m 1) true ∷ []) .queue
 
 pub overtakes : ((m 2 ∷ []) ++ one-held .ring .held ≡ m 2 ∷ m 1 ∷ []) × (one-held .ring .held ++ m 2 ∷ [] ≡ m 1 ∷ m 2 ∷ []) × (getD (stored (m 2) one-held .ring .held) 0 [] ≡ m 1)
     × (putDecision (writeIdx one-held) (used one-held) (max one-held) true false ≡ refuse einval)

@@ -16,7 +16,7 @@ use Rattle.msgq.specs.History.{Good}
 use Rattle.msgq.specs.HandOver.{Waited, Event, putting, getting, stored, read, happens, ends, Sized, Fair, HandsOver, Refills, Refused, OnlyEmpty}
 use Rattle.msgq.proofs.Decisions.{put-wakes, get-wakes}
 use Rattle.msgq.proofs.Calls.{stores, reads}
-use Rattle.msgq.proofs.Steps.{good-put, good-leave}
+use Rattle.msgq.proofs.Goods.{good-put, good-leave}
 use Rattle.msgq.proofs.Histories.{new-good}
 use Rattle.msgq.proofs.Agreements.{read-within, write-within}
 use Rattle.msgq.proofs.Waiters.{put-sane, get-sane, waited, put-fair, get-fair}

@@ -8,7 +8,7 @@ use native.Mathlib.Nat.{mul-le-mul}
 use borrow.Author.Tests.{lt-ltb, le-ltb, lt-leb, le-leb, leb-true, ltb-true, eqb-true, not-true, not-false}
 use lib.Dec.{ltb, leb, eqb}
 use lib.ListN.{length, getD}
-use Rattle.store.proofs.Laws.{both-true}
+use Rattle.seq.proofs.Order.{both-true}
 use Rattle.ring_buf.specs.Bytes.{numbers}
 use Rattle.msgq.specs.Post.{room, sound, takes, sane}
 

@@ -14,7 +14,7 @@ use Rattle.msgq.specs.Msgq.{Msgq, having, max, used, readIdx, writeIdx, 
 use Rattle.msgq.specs.History.{Good}
 use Rattle.msgq.specs.Upstream.{nextIdx, prevIdx, InvOf, PutDone, Put, FrontDone, PutFront, GetDone, Get, PeekAt, Purge}
 use Rattle.msgq.proofs.Calls.{put-yes, put-no, front-yes, front-no, get-yes, get-no, write-next, write-led, write-left}
-use Rattle.msgq.proofs.Steps.{good-put, good-front, good-leave}
+use Rattle.msgq.proofs.Goods.{good-put, good-front, good-leave}
 
 pub next-is : (i c : ℕ) → i < c → wrap (i + 1) c ≡ nextIdx i c
 next-is i c f =

@@ -5,6 +5,7 @@ pub mod Looks
 pub mod Answers
 pub mod Decisions
 pub mod Calls
+pub mod Goods
 pub mod Lines
 pub mod Steps
 pub mod Histories

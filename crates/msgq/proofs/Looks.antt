@@ -9,7 +9,7 @@ use lib.IntN.{ℤ, pos}
 use lib.ListN.{length, take, drop, getD, drop-of-length-le, List·getD-eq-default}
 use lib.Seq.{getD-take}
 use Rattle.thread.specs.Code.{ok, enomsg}
-use Rattle.store.specs.Store.{answer, reply, looks, handed, Filled}
+use Rattle.store.specs.Store.{answer, looks, handed, Filled}
 use Rattle.store.proofs.Laws.{any-some, any-none, looks-is}
 use Rattle.ring_buf.specs.Ring.{wrap, turn}
 use Rattle.ring_buf.proofs.Rings.{wrap-low, wrap-below, held-long, spare-long}
@@ -87,10 +87,10 @@ module _ (h b : List ℕ) (s : Sound h b) where
   empty-no e = rw (good, any-some (take n (turn t S)) (omega (arith, hold)))
 
   module _ (o : List ℕ) (i : ℕ) where
-    pub peek-past : length o ≡ z → n ≤ i → enomsg ≡ answer (reply messages (peek (length o) i) h b)
+    pub peek-past : length o ≡ z → n ≤ i → enomsg ≡ looks messages (λ (q : Msgq). answer (peek (length o) i q)) h b
     peek-past e f = rw (good, eq-eqb (length o) z e, hold, le-ltb i n f)
 
-    pub peek-done : length o ≡ z → i < n → ok ≡ answer (reply messages (peek (length o) i) h b)
+    pub peek-done : length o ≡ z → i < n → ok ≡ looks messages (λ (q : Msgq). answer (peek (length o) i q)) h b
     peek-done e f = rw (good, eq-eqb (length o) z e, hold, lt-ltb i n f)
 
     -- the message i in the slot a

@@ -17,7 +17,7 @@ use Rattle.msgq.specs.History.{Good}
 use Rattle.msgq.specs.Upstream.{Inv, InvOf, Housed, InSlot}
 use Rattle.msgq.proofs.Slots.{length-slots, all-slots, turn-at}
 use Rattle.msgq.proofs.Headers.{is-sound, from-sound}
-use Rattle.msgq.proofs.Steps.{all-append}
+use Rattle.msgq.proofs.Goods.{all-append}
 use Rattle.msgq.proofs.Implied.{good-inv}
 
 pub memory-good : (h b : List ℕ) → sound h b ≡ true → Good (getD h 0 0) (getD h 3 0) (held h b)

@@ -1,5 +1,5 @@
 -- What upstream demands of its callers is refused here, with -22, and nothing changes. Assumes nothing.
-use mathlib.Core.Path.{_≡_, refl, ap, subst, _∙_}
+use mathlib.Core.Path.{_≡_, refl, _∙_}
 use mathlib.Core.Bool.{Bool, true, false, cond}
 use mathlib.Core.Logic.{_⊎_, ⊎-elim}
 use mathlib.Core.List.{List}
@@ -11,35 +11,27 @@ use lib.IntN.{ℤ}
 use lib.ListN.{getD}
 use Rattle.seq.proofs.Order.{cond-same}
 use Rattle.thread.specs.Code.{einval}
-use Rattle.store.specs.Store.{Reply, refuse, answer, reply, After, Did, looks, settled}
-use Rattle.store.proofs.Laws.{replies, replies-bad, looks-bad}
+use Rattle.store.specs.Store.{Reply, refuse, Decided, Did, looks}
+use Rattle.store.proofs.Laws.{kept-bad, kept-no, looks-bad, declined}
 use Rattle.ring_buf.specs.Bytes.{numbers}
-use Rattle.msgq.specs.Msgq.{Msgq, puts, gets, given, peek}
-use Rattle.msgq.specs.Post.{sound, messages, putDecision, getDecision, putFrontDecision, peekDecision, Decided, Found}
+use Rattle.msgq.specs.Msgq.{Msgq, puts, gets, given}
+use Rattle.msgq.specs.Post.{sound, messages, putDecision, getDecision, putFrontDecision, peekDecision, Settled}
 use Rattle.msgq.specs.History.{Call, does}
+use Rattle.msgq.proofs.Decisions.{peek-insane}
 use Rattle.msgq.proofs.Deciding.{kept}
 
 module _ (h b : List ℕ) {r : ℤ} {h' b' : List ℕ} where
-  -- a reply that is a refusal
-  refused : (f : Msgq → Reply Msgq) {c : ℤ} → reply messages f h b ≡ refuse c → Did messages f h b r h' b' → (r ≡ c) × ((h' ≡ h) × (b' ≡ b))
-  refused f e d = let a = subst (λ (y : Reply Msgq). After messages y h b h' b') e (d .after) in (d .code ∙ ap answer e, (a .0, a .1))
-
   -- a malformed queue
-  pub call-refuses : (k : Call) → sound h b ≡ false → Did messages (does k) h b r h' b' → (r ≡ einval) × ((h' ≡ h) × (b' ≡ b))
-  call-refuses k e = refused (does k) (replies-bad messages (does k) h b e)
+  pub call-refuses : (k : Call) → sound h b ≡ false → Did messages (does k) h b r h' b' → (r ≡ einval) × (h' ≡ h) × (b' ≡ b)
+  call-refuses k e d = kept-bad messages (does k) h b d e
 
   -- a message, or a place for one, of another size
   pub size-refuses : (n : ℕ) (f : Msgq → Reply Msgq) → sound h b ≡ true → (n ≡ getD h 3 0 → ⊥)
-      → Did messages (λ (q : Msgq). given (eqb n (q .size)) (f q)) h b r h' b' → (r ≡ einval) × ((h' ≡ h) × (b' ≡ b))
-  size-refuses n f e g =
-      refused (λ (q : Msgq). given (eqb n (q .size)) (f q)) (replies messages (λ (q : Msgq). given (eqb n (q .size)) (f q)) h b e ∙ rw (ne-eqb n (getD h 3 0) g))
+      → Did messages (λ (q : Msgq). given (eqb n (q .size)) (f q)) h b r h' b' → (r ≡ einval) × (h' ≡ h) × (b' ≡ b)
+  size-refuses n f e g d = kept-no messages (λ (q : Msgq). given (eqb n (q .size)) (f q)) h b d e (rw (ne-eqb n (getD h 3 0) g))
 
-module _ (h b : List ℕ) (r : ℤ) where
-  pub peek-refuses : (n i : ℕ) → sound h b ≡ false → r ≡ answer (reply messages (peek n i) h b) → r ≡ einval
-  peek-refuses n i e d = d ∙ ap answer (replies-bad messages (peek n i) h b e)
-
-  pub look-refuses : (f : Msgq → ℤ) → sound h b ≡ false → r ≡ looks messages f h b → r ≡ einval
-  look-refuses f e d = d ∙ looks-bad messages h b f e
+pub look-refuses : (h b : List ℕ) (r : ℤ) (f : Msgq → ℤ) → sound h b ≡ false → r ≡ looks messages f h b → r ≡ einval
+look-refuses h b r f e d = d ∙ looks-bad messages h b f e
 
 -- ---- on plain numbers
 
@@ -52,31 +44,29 @@ Stays i u r i' u' = (r ≡ einval) × ((i' ≡ i) × (u' ≡ u))
 
 module _ (t n c i u : ℕ) (r : ℤ) (i' u' : ℕ) where
   module _ (e : numbers c t n ≡ false) where
-    pub put-decide-refuses : (w k : Bool) → Decided (putDecision t n c w k) i u r i' u' → Stays i u r i' u'
+    pub put-decide-refuses : (w k : Bool) → Settled (putDecision t n c w k) i u r i' u' → Stays i u r i' u'
     put-decide-refuses w k d = kept d (rw e)
 
-    pub get-decide-refuses : (w k : Bool) → Decided (getDecision t n c w k) i u r i' u' → Stays i u r i' u'
+    pub get-decide-refuses : (w k : Bool) → Settled (getDecision t n c w k) i u r i' u' → Stays i u r i' u'
     get-decide-refuses w k d = kept d (rw e)
 
-    pub front-decide-refuses : Decided (putFrontDecision t n c) i u r i' u' → Stays i u r i' u'
+    pub front-decide-refuses : Settled (putFrontDecision t n c) i u r i' u' → Stays i u r i' u'
     front-decide-refuses d = kept d (rw e)
 
   -- a reader that waits while there are messages, a writer that waits while there is room
-  pub reader-refuses : (k : Bool) → 0 < n → Decided (putDecision t n c true k) i u r i' u' → Stays i u r i' u'
+  pub reader-refuses : (k : Bool) → 0 < n → Settled (putDecision t n c true k) i u r i' u' → Stays i u r i' u'
   reader-refuses k f d = kept d (go (numbers c t n))
     where
       go : (b : Bool) → given (cond b (eqb n 0) false) (puts t n c true k) ≡ refuse einval
       go true = rw (ne-eqb n 0 (λ v. absurd (omega arith)))
       go false = refl
 
-  pub writer-refuses : (k : Bool) → n < c → Decided (getDecision t n c true k) i u r i' u' → Stays i u r i' u'
+  pub writer-refuses : (k : Bool) → n < c → Settled (getDecision t n c true k) i u r i' u' → Stays i u r i' u'
   writer-refuses k f d = kept d (go (numbers c t n))
     where
       go : (b : Bool) → given (cond b (eqb n c) false) (gets t n c true k) ≡ refuse einval
       go true = rw (ne-eqb n c (λ v. absurd (omega arith)))
       go false = refl
 
-pub peek-decide-refuses : (t n c j i : ℕ) (r : ℤ) (i' : ℕ) → numbers c t n ≡ false → Found (peekDecision t n c j) i r i' → (r ≡ einval) × (i' ≡ i)
-peek-decide-refuses t n c j i r i' e d =
-    let x : peekDecision t n c j ≡ refuse einval = rw e in
-    (d .code ∙ ap answer x, d .slot ∙ ap (λ (y : Reply ℕ). settled (λ (v : ℕ). v) y i) x)
+pub peek-decide-refuses : (t n c j i : ℕ) (r : ℤ) (i' : ℕ) → numbers c t n ≡ false → Decided (peekDecision t n c j) i r i' → (r ≡ einval) × (i' ≡ i)
+peek-decide-refuses t n c j i r i' e d = declined (peek-insane t n c j e) d

@@ -8,17 +8,16 @@ use borrow.Author.Tests.{eq-eqb}
 use lib.IntN.{ℤ}
 use lib.ListN.{length, getD, length-append, drop-of-length-le}
 use lib.Seq.{getD-append-seam}
-use Rattle.store.specs.Store.{Reply, answer, reply, Did, handed, Filled, left}
-use Rattle.store.proofs.Laws.{answers, replies}
+use Rattle.store.specs.Store.{Reply, answer, Did, looks, handed, Filled, left}
+use Rattle.store.proofs.Laws.{answers, looks-is}
+use Rattle.store.proofs.Histories.{done}
 use Rattle.ring_buf.specs.Ring.{wrap, append, lead}
 use Rattle.msgq.specs.Msgq.{Msgq, having, max, used, readIdx, writeIdx, put, putFront, get, peek, seen, purge}
 use Rattle.msgq.specs.Post.{sound, held, messages}
-use Rattle.msgq.specs.History.{Call, does, Good}
-use Rattle.msgq.specs.History as calls
+use Rattle.msgq.specs.History.{Good}
 use Rattle.msgq.specs.Upstream.{Inv, Housed, Put, PutFront, Get, InSlot, PeekAt, Purge}
 use Rattle.msgq.proofs.Calls.{stores, front-yes}
-use Rattle.msgq.proofs.Steps.{all-at}
-use Rattle.msgq.proofs.Histories.{in-memory}
+use Rattle.msgq.proofs.Goods.{all-at}
 use Rattle.msgq.proofs.Implied.{put-does, front-does, get-does, peek-does, purge-does}
 use Rattle.msgq.proofs.Memory.{memory-good, inv-formed, slot-of, first-slot}
 
@@ -38,42 +37,41 @@ module _ (h b : List ℕ) (w : ℕ) (k : Housed h b) (i : Inv (getD h 3 0) (getD
 
   module _ (r : ℤ) (h' b' : List ℕ) where
     -- what holds of the call holds of the memory
-    holds : (c : Call) (R : ℤ → Msgq → Type 0) → Did messages (does c) h b r h' b' → R (answer (does c Q)) (left (does c Q) Q) → R r (held h' b')
-    holds c R d a =
-        subst (R r) (sym (in-memory c h b h' b' right d .1)) (subst (λ (z : ℤ). R z (left (does c Q) Q)) (sym (answers messages (does c) h b d right)) a)
+    holds : (f : Msgq → Reply Msgq) (R : ℤ → Msgq → Type 0) → Did messages f h b r h' b' → R (answer (f Q)) (left (f Q) Q) → R r (held h' b')
+    holds f R d a = subst (R r) (sym (done messages f h b right d .1)) (subst (λ (z : ℤ). R z (left (f Q) Q)) (sym (answers messages f h b d right)) a)
 
     pub msgq-put : (m : List ℕ) → length m ≡ getD h 3 0 → Did messages (put m) h b r h' b' → Put Q r (held h' b')
-    msgq-put m e d = holds (calls.put m) (Put Q) d (put-does (getD h 0 0) (getD h 3 0) Q (i .some-bytes) G m e)
+    msgq-put m e d = holds (put m) (Put Q) d (put-does (getD h 0 0) (getD h 3 0) Q (i .some-bytes) G m e)
 
     pub msgq-put-front : (m : List ℕ) → length m ≡ getD h 3 0 → Did messages (putFront m) h b r h' b' → PutFront Q r (held h' b')
-    msgq-put-front m e d = holds (calls.putFront m) (PutFront Q) d (front-does (getD h 0 0) (getD h 3 0) Q (i .some-bytes) G m e)
+    msgq-put-front m e d = holds (putFront m) (PutFront Q) d (front-does (getD h 0 0) (getD h 3 0) Q (i .some-bytes) G m e)
 
     pub msgq-get : (n : ℕ) → n ≡ getD h 3 0 → Did messages (get n) h b r h' b' → Get Q r (held h' b')
     msgq-get n e d =
-        holds (calls.get n) (Get Q) d
+        holds (get n) (Get Q) d
         (subst (λ (x : ℕ). Get Q (answer (get x Q)) (left (get x Q) Q)) (sym e) (get-does (getD h 0 0) (getD h 3 0) Q (i .some-bytes) G))
 
     pub msgq-purge : Did messages purge h b r h' b' → Purge Q r (held h' b')
-    msgq-purge d = holds calls.purge (Purge Q) d (purge-does (getD h 0 0) (getD h 3 0) Q (i .some-bytes) G)
+    msgq-purge d = holds purge (Purge Q) d (purge-does (getD h 0 0) (getD h 3 0) Q (i .some-bytes) G)
 
     -- the slots
     pub put-slot : (m : List ℕ) → length m ≡ getD h 3 0 → used Q < max Q → Did messages (put m) h b r h' b' → InSlot (writeIdx Q) m (held h' b') b'
     put-slot m e f d =
-        let x : held h' b' ≡ having (append (m ∷ []) (Q .ring)) Q = in-memory (calls.put m) h b h' b' right d .1 ∙ stores (getD h 0 0) (getD h 3 0) Q G m e f in
+        let x : held h' b' ≡ having (append (m ∷ []) (Q .ring)) Q = done messages (put m) h b right d .1 ∙ stores (getD h 0 0) (getD h 3 0) Q G m e f in
         let n : used (held h' b') ≡ used Q + 1 = ap used x ∙ length-append (Q .ring .held) (m ∷ []) in
         let y : getD (held h' b' .ring .held) (used Q) [] ≡ m = ap (λ (q : Msgq). getD (q .ring .held) (used Q) []) x ∙ getD-append-seam (Q .ring .held) m [] [] in
         let v : wrap (getD h' 1 0 + used Q) (getD h' 0 0) ≡ writeIdx Q = ap (λ (q : Msgq). wrap (readIdx q + used Q) (max q)) x in
         subst (λ (t : ℕ). InSlot t m (held h' b') b') v
         (subst (λ (t : List ℕ). InSlot (wrap (getD h' 1 0 + used Q) (getD h' 0 0)) t (held h' b') b') y
-        (slot-of h' b' (in-memory (calls.put m) h b h' b' right d .0) (used Q) (omega arith)))
+        (slot-of h' b' (done messages (put m) h b right d .0) (used Q) (omega arith)))
 
     pub front-slot : (m : List ℕ) → length m ≡ getD h 3 0 → used Q < max Q → Did messages (putFront m) h b r h' b' → InSlot (readIdx (held h' b')) m (held h' b') b'
     front-slot m e f d =
         let x : held h' b' ≡ having (lead m (Q .ring)) Q =
-        in-memory (calls.putFront m) h b h' b' right d .1 ∙ ap (λ (y : Reply Msgq). left y Q) (front-yes (getD h 0 0) (getD h 3 0) Q G m e f) in
+        done messages (putFront m) h b right d .1 ∙ ap (λ (y : Reply Msgq). left y Q) (front-yes (getD h 0 0) (getD h 3 0) Q G m e f) in
         let n : used (held h' b') ≡ suc (used Q) = ap used x in
         let y : getD (held h' b' .ring .held) 0 [] ≡ m = ap (λ (q : Msgq). getD (q .ring .held) 0 []) x in
-        subst (λ (t : List ℕ). InSlot (getD h' 1 0) t (held h' b') b') y (first-slot h' b' (in-memory (calls.putFront m) h b h' b' right d .0) (omega arith))
+        subst (λ (t : List ℕ). InSlot (getD h' 1 0) t (held h' b') b') y (first-slot h' b' (done messages (putFront m) h b right d .0) (omega arith))
 
   -- what is handed out is the message
   handed-out : (n : ℕ) (o o' : List ℕ) → length o ≡ getD h 3 0 → n < used Q → Filled (handed messages (seen (length o) n) h b) o o' → o' ≡ getD (Q .ring .held) n []
@@ -89,7 +87,7 @@ module _ (h b : List ℕ) (w : ℕ) (k : Housed h b) (i : Inv (getD h 3 0) (getD
       → InSlot (wrap (readIdx Q + n) (max Q)) o' Q b
   peek-slot n o o' e f d = subst (λ (t : List ℕ). InSlot (wrap (readIdx Q + n) (max Q)) t Q b) (sym (handed-out n o o' e f d)) (slot-of h b right n f)
 
-  pub msgq-peek-at : (n : ℕ) (o : List ℕ) (r : ℤ) → length o ≡ getD h 3 0 → r ≡ answer (reply messages (peek (length o) n) h b) → PeekAt n Q r
+  pub msgq-peek-at : (n : ℕ) (o : List ℕ) (r : ℤ) → length o ≡ getD h 3 0 → r ≡ looks messages (λ (q : Msgq). answer (peek (length o) n q)) h b → PeekAt n Q r
   msgq-peek-at n o r e d =
-      subst (PeekAt n Q) (sym (d ∙ ap answer (replies messages (peek (length o) n) h b right) ∙ ap (λ (x : ℕ). answer (peek x n Q)) e))
+      subst (PeekAt n Q) (sym (d ∙ looks-is messages h b (λ (q : Msgq). answer (peek (length o) n q)) right ∙ ap (λ (x : ℕ). answer (peek x n Q)) e))
       (peek-does (getD h 0 0) (getD h 3 0) Q (i .some-bytes) G n)

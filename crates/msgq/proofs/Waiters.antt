@@ -18,7 +18,7 @@ use Rattle.msgq.specs.HandOver.{Waited, Event, putting, getting, decisio
 use Rattle.msgq.proofs.Decisions.{put-refuses, put-pends, put-wakes, put-stores, get-refuses, get-pends, get-wakes, get-reads}
 use Rattle.msgq.proofs.Calls.{stores, reads}
 use Rattle.msgq.proofs.Lines.{line-hand, line-store, line-offer, line-read, line-refill}
-use Rattle.msgq.proofs.Steps.{all-append, good-put, good-leave}
+use Rattle.msgq.proofs.Goods.{all-append, good-put, good-leave}
 use Rattle.msgq.proofs.Agreements.{read-within, write-within}
 
 none-held : {A : Type 0} (l : List A) → length l ≡ 0 → l ≡ []

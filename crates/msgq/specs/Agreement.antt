@@ -7,12 +7,11 @@ use Prim.Native.Nat.{ℕ}
 use lib.ListN.{length}
 use Rattle.store.specs.Store.{Reply, answer, left}
 use Rattle.msgq.specs.Msgq.{Msgq, Numbers, max, used, readIdx, writeIdx, put, putFront, get, peek}
-use Rattle.msgq.specs.Post.{putDecision, getDecision, putFrontDecision, peekDecision, Decided}
-use Rattle.msgq.specs.History.{}
+use Rattle.msgq.specs.Post.{putDecision, getDecision, putFrontDecision, peekDecision, Settled}
 
 -- the reply y is the decision d of a queue q, whose index is i
 abbrev pub By : Reply Msgq → Msgq → (Msgq → ℕ) → Reply Numbers → Type 0
-By y q i d = Decided d (i q) (used q) (answer y) (i (left y q)) (used (left y q))
+By y q i d = Settled d (i q) (used q) (answer y) (i (left y q)) (used (left y q))
 
 pub record Agrees (q : Msgq) : Type 0 where
   pub put : (m : List ℕ) → length m ≡ q .size → By (put m q) q writeIdx (putDecision (writeIdx q) (used q) (max q) false true)

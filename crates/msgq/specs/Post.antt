@@ -64,11 +64,7 @@ abbrev pub peekDecision : ℕ → ℕ → ℕ → ℕ → Reply ℕ
 peekDecision t n c i = given (numbers c t n) (peeks t n c i)
 
 -- the decision y is told as r; the words i and n become its numbers, and stay if it is a refusal
-pub record Decided (y : Reply Numbers) (i n : ℕ) (r : ℤ) (i' n' : ℕ) : Type 0 where
+pub record Settled (y : Reply Numbers) (i n : ℕ) (r : ℤ) (i' n' : ℕ) : Type 0 where
   pub code : r ≡ answer y
   pub idx : i' ≡ settled (λ (x : Numbers). x .idx) y i
   pub used : n' ≡ settled (λ (x : Numbers). x .used) y n
-
-pub record Found (y : Reply ℕ) (i : ℕ) (r : ℤ) (i' : ℕ) : Type 0 where
-  pub code : r ≡ answer y
-  pub slot : i' ≡ settled (λ (x : ℕ). x) y i

@@ -3,17 +3,18 @@
 use mathlib.Core.Path.{_≡_}
 use mathlib.Core.Bool.{Bool, true, false, cond}
 use mathlib.Core.Logic.{_⊎_}
-use mathlib.Core.List.{List, [], _∷_, _++_, map}
-use Prim.Native.Nat.{ℕ, _+_, _-_, _*_, _≤_, _<_}
+use mathlib.Core.List.{List, [], _∷_, _++_}
+use Prim.Native.Nat.{ℕ, zero, suc, _+_, _-_, _*_, _≤_, _<_}
 use lib.Dec.{eqb, ltb}
 use lib.IntN.{ℤ, pos}
-use lib.ListN.{length, drop, getD, replicate}
+use lib.ListN.{length, drop, getD}
 use Rattle.thread.specs.Code.{ok, enomsg, einval}
 use Rattle.thread.specs.Upstream.{Tells}
 use Rattle.msgq.specs.Messages.{slots}
-use Rattle.msgq.specs.Msgq.{Msgq, max, used, readIdx, writeIdx, stored, wakesReader, isRead, wakesWriter, pends}
+use Rattle.msgq.specs.Msgq.{Msgq, max, used, readIdx, writeIdx, seen, stored, wakesReader, isRead, wakesWriter, pends}
 use Rattle.msgq.specs.Post.{new}
-use Rattle.msgq.specs.History.{Call, put, get, nothing, State, run}
+use Rattle.store.specs.History.{Step, Ran}
+use Rattle.msgq.specs.History.{Call, does, gives}
 use Rattle.msgq.specs.HandOver as queue
 
 -- next_idx_spec, prev_idx_spec
@@ -250,7 +251,7 @@ pub record PeekAtDecide (t n c i x : ℕ) (r : ℤ) (x' : ℕ) : Type 0 where
 
 -- lemma_invariant_inductive: the invariant holds across all operations
 abbrev pub Inductive : ℕ → ℕ → List ℕ → Type 0
-Inductive size c b = (ks : List Call) → InvOf (run (record { queue = new size c b; log = nothing }) ks .queue)
+Inductive size c b = (ss : List (Step Call)) (q : Msgq) → Ran does gives (new size c b) ss q → InvOf q
 
 -- lemma_put_get_roundtrip: put-then-get reads the OLDEST message; the net effect is used_msgs unchanged but read_idx advanced
 pub record Roundtrip (m : List ℕ) (q : Msgq) : Type 0 where
@@ -264,10 +265,21 @@ pub record Roundtrip (m : List ℕ) (q : Msgq) : Type 0 where
 
 -- lemma_fill_drain_symmetric: after max_msgs puts followed by max_msgs gets, used_msgs == 0, read_idx == write_idx. Of any number that fits, and
 -- the messages have come out as they went in
-abbrev pub drained : ℕ → ℕ → List ℕ → List (List ℕ) → State
-drained size c b ms = run (record { queue = new size c b; log = nothing }) (map put ms ++ replicate (length ms) (get size))
+abbrev pub filled : List (List ℕ) → Msgq → Msgq
+filled [] q = q
+filled (m ∷ ms) q = filled ms (queue.stored m q)
+
+-- after n gets, and what they hand out
+abbrev pub drained : ℕ → Msgq → Msgq
+drained zero q = q
+drained (suc n) q = drained n (queue.read q)
+
+abbrev pub drawn : ℕ → Msgq → List (List ℕ)
+drawn zero q = []
+drawn (suc n) q = seen (q .size) 0 q ∷ drawn n (queue.read q)
 
 pub record FillDrain (size c : ℕ) (b : List ℕ) (ms : List (List ℕ)) : Type 0 where
-  pub empty : used (drained size c b ms .queue) ≡ 0
-  pub met : readIdx (drained size c b ms .queue) ≡ writeIdx (drained size c b ms .queue)
-  pub order : drained size c b ms .log .got ≡ ms
+  pub held : filled ms (new size c b) .ring .held ≡ ms
+  pub order : drawn (length ms) (filled ms (new size c b)) ≡ ms
+  pub empty : used (drained (length ms) (filled ms (new size c b))) ≡ 0
+  pub met : readIdx (drained (length ms) (filled ms (new size c b))) ≡ writeIdx (drained (length ms) (filled ms (new size c b)))

@@ -8,11 +8,11 @@ ghost use mathlib.Core.Bool.{true};
 ghost use Prim.Native.Nat.{_+_, _*_, _<_, _≤_};
 ghost use lib.ListN.{length, take, drop};
 ghost use lib.Seq.{paste};
-ghost use Rattle.store.specs.Store.{answer, reply, Did, looks, handed, Filled, Started};
+ghost use Rattle.store.specs.Store.{answer, Decided, Did, looks, handed, Filled, Started};
 ghost use Rattle.ring_buf.specs.Ring.{wrap};
 ghost use Rattle.ring_buf.specs.Bytes.{numbers as within};
-ghost use Rattle.msgq.specs.Msgq.{put as putBack, putFront, get as getFirst, peek, seen, purge as emptied, numFree, numUsed, msgSize, maxMsgs, readAt, writeAt, full, empty};
-ghost use Rattle.msgq.specs.Post.{room, sound, takes, messages, new, may, sane as fitting, putDecision, getDecision, putFrontDecision, peekDecision, Decided, Found};
+ghost use Rattle.msgq.specs.Msgq.{Msgq, put as putBack, putFront, get as getFirst, peek, seen, purge as emptied, numFree, numUsed, msgSize, maxMsgs, readAt, writeAt, full, empty};
+ghost use Rattle.msgq.specs.Post.{room, sound, takes, messages, new, may, sane as fitting, putDecision, getDecision, putFrontDecision, peekDecision, Settled};
 
 // What a put is to do: Gale's PutDecision.
 pub const STORE: i32 = 0;
@@ -129,7 +129,7 @@ pub fn put_decide(
     new_write_idx: &mut u32,
     new_used: &mut u32,
 ) -> i32
-    ensures { λ r. ⌜ Decided (putDecision «write_idx» «used_msgs» «max_msgs» «has_waiter» «is_no_wait») (now («new_write_idx» .entry)) (now («new_used» .entry)) r (now («new_write_idx» .exit)) (now («new_used» .exit)) ⌝ }
+    ensures { λ r. ⌜ Settled (putDecision «write_idx» «used_msgs» «max_msgs» «has_waiter» «is_no_wait») (now («new_write_idx» .entry)) (now («new_used» .entry)) r (now («new_write_idx» .exit)) (now («new_used» .exit)) ⌝ }
 {
     if !sane(write_idx, used_msgs, max_msgs, has_waiter, 0) {
         return EINVAL;
@@ -162,7 +162,7 @@ pub fn get_decide(
     new_read_idx: &mut u32,
     new_used: &mut u32,
 ) -> i32
-    ensures { λ r. ⌜ Decided (getDecision «read_idx» «used_msgs» «max_msgs» «has_waiter» «is_no_wait») (now («new_read_idx» .entry)) (now («new_used» .entry)) r (now («new_read_idx» .exit)) (now («new_used» .exit)) ⌝ }
+    ensures { λ r. ⌜ Settled (getDecision «read_idx» «used_msgs» «max_msgs» «has_waiter» «is_no_wait») (now («new_read_idx» .entry)) (now («new_used» .entry)) r (now («new_read_idx» .exit)) (now («new_used» .exit)) ⌝ }
 {
     if !sane(read_idx, used_msgs, max_msgs, has_waiter, max_msgs) {
         return EINVAL;
@@ -191,7 +191,7 @@ pub fn put_front_decide(
     new_read_idx: &mut u32,
     new_used: &mut u32,
 ) -> i32
-    ensures { λ r. ⌜ Decided (putFrontDecision «read_idx» «used_msgs» «max_msgs») (now («new_read_idx» .entry)) (now («new_used» .entry)) r (now («new_read_idx» .exit)) (now («new_used» .exit)) ⌝ }
+    ensures { λ r. ⌜ Settled (putFrontDecision «read_idx» «used_msgs» «max_msgs») (now («new_read_idx» .entry)) (now («new_used» .entry)) r (now («new_read_idx» .exit)) (now («new_used» .exit)) ⌝ }
 {
     if !numbers(read_idx, used_msgs, max_msgs) {
         return EINVAL;
@@ -212,7 +212,7 @@ pub fn peek_at_decide(
     idx: u32,
     slot_idx: &mut u32,
 ) -> i32
-    ensures { λ r. ⌜ Found (peekDecision «read_idx» «used_msgs» «max_msgs» idx) (now («slot_idx» .entry)) r (now («slot_idx» .exit)) ⌝ }
+    ensures { λ r. ⌜ Decided (peekDecision «read_idx» «used_msgs» «max_msgs» idx) (now («slot_idx» .entry)) r (now («slot_idx» .exit)) ⌝ }
 {
     if !numbers(read_idx, used_msgs, max_msgs) {
         return EINVAL;
@@ -301,7 +301,7 @@ pub fn get(h: &mut [u32], b: &[u8], out: &mut [u8]) -> i32
 
 // OK: out is the message at idx, 0 being the first; EINVAL, also for an out of another size; ENOMSG: there are no more than idx.
 pub fn peek_at(h: &[u32], b: &[u8], idx: u32, out: &mut [u8]) -> i32
-    ensures { λ r. ⌜ r ≡ answer (reply messages (peek (length (now (out .entry))) idx) (now (h .entry)) (now (b .entry))) ⌝ }
+    ensures { λ r. ⌜ r ≡ looks messages (λ (q : Msgq). answer (peek (length (now (out .entry))) idx q)) (now (h .entry)) (now (b .entry)) ⌝ }
     ensures { λ r. ⌜ Filled (handed messages (seen (length (now (out .entry))) idx) (now (h .entry)) (now (b .entry))) (now (out .entry)) (now (out .exit)) ⌝ }
 {
     if !sized(h, b, out.len()) {

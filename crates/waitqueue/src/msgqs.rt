@@ -1,9 +1,9 @@
 // Message queues: the header's four words, and the buffer.
 ghost use mathlib.Core.Path.{_≡_};
 ghost use lib.ListN.{length};
-ghost use Rattle.store.specs.Store.{answer, reply, Did, looks, handed, Filled, Started};
-ghost use Rattle.msgq.specs.Msgq.{put, putFront, get, peek, seen, purge, numFree, numUsed, msgSize, maxMsgs, readAt, writeAt, full, empty};
-ghost use Rattle.msgq.specs.Post.{messages, new, may, putDecision, getDecision, putFrontDecision, peekDecision, Decided, Found};
+ghost use Rattle.store.specs.Store.{answer, Decided, Did, looks, handed, Filled, Started};
+ghost use Rattle.msgq.specs.Msgq.{Msgq, put, putFront, get, peek, seen, purge, numFree, numUsed, msgSize, maxMsgs, readAt, writeAt, full, empty};
+ghost use Rattle.msgq.specs.Post.{messages, new, may, putDecision, getDecision, putFrontDecision, peekDecision, Settled};
 
 #[no_mangle]
 pub extern "C" fn wq_msgq_init(head: &mut [u32; 4], buf: &[u8], msg_size: u32, max_msgs: u32) -> i32
@@ -36,7 +36,7 @@ pub extern "C" fn wq_msgq_get(head: &mut [u32; 4], buf: &[u8], out: &mut [u8]) -
 
 #[no_mangle]
 pub extern "C" fn wq_msgq_peek_at(head: &[u32; 4], buf: &[u8], idx: u32, out: &mut [u8]) -> i32
-    ensures { λ r. ⌜ r ≡ answer (reply messages (peek (length (now (out .entry))) idx) (now (head .entry)) (now (buf .entry))) ⌝ }
+    ensures { λ r. ⌜ r ≡ looks messages (λ (q : Msgq). answer (peek (length (now (out .entry))) idx q)) (now (head .entry)) (now (buf .entry)) ⌝ }
     ensures { λ r. ⌜ Filled (handed messages (seen (length (now (out .entry))) idx) (now (head .entry)) (now (buf .entry))) (now (out .entry)) (now (out .exit)) ⌝ }
 {
     msgq::peek_at(head, buf, idx, out)
@@ -115,7 +115,7 @@ pub extern "C" fn wq_msgq_put_decide(
     new_write_idx: &mut u32,
     new_used: &mut u32,
 ) -> i32
-    ensures { λ r. ⌜ Decided (putDecision «write_idx» «used_msgs» «max_msgs» «has_waiter» «is_no_wait») (now («new_write_idx» .entry)) (now («new_used» .entry)) r (now («new_write_idx» .exit)) (now («new_used» .exit)) ⌝ }
+    ensures { λ r. ⌜ Settled (putDecision «write_idx» «used_msgs» «max_msgs» «has_waiter» «is_no_wait») (now («new_write_idx» .entry)) (now («new_used» .entry)) r (now («new_write_idx» .exit)) (now («new_used» .exit)) ⌝ }
 {
     msgq::put_decide(
         write_idx,
@@ -138,7 +138,7 @@ pub extern "C" fn wq_msgq_get_decide(
     new_read_idx: &mut u32,
     new_used: &mut u32,
 ) -> i32
-    ensures { λ r. ⌜ Decided (getDecision «read_idx» «used_msgs» «max_msgs» «has_waiter» «is_no_wait») (now («new_read_idx» .entry)) (now («new_used» .entry)) r (now («new_read_idx» .exit)) (now («new_used» .exit)) ⌝ }
+    ensures { λ r. ⌜ Settled (getDecision «read_idx» «used_msgs» «max_msgs» «has_waiter» «is_no_wait») (now («new_read_idx» .entry)) (now («new_used» .entry)) r (now («new_read_idx» .exit)) (now («new_used» .exit)) ⌝ }
 {
     msgq::get_decide(
         read_idx,
@@ -159,7 +159,7 @@ pub extern "C" fn wq_msgq_put_front_decide(
     new_read_idx: &mut u32,
     new_used: &mut u32,
 ) -> i32
-    ensures { λ r. ⌜ Decided (putFrontDecision «read_idx» «used_msgs» «max_msgs») (now («new_read_idx» .entry)) (now («new_used» .entry)) r (now («new_read_idx» .exit)) (now («new_used» .exit)) ⌝ }
+    ensures { λ r. ⌜ Settled (putFrontDecision «read_idx» «used_msgs» «max_msgs») (now («new_read_idx» .entry)) (now («new_used» .entry)) r (now («new_read_idx» .exit)) (now («new_used» .exit)) ⌝ }
 {
     msgq::put_front_decide(read_idx, used_msgs, max_msgs, new_read_idx, new_used)
 }
@@ -172,7 +172,7 @@ pub extern "C" fn wq_msgq_peek_at_decide(
     idx: u32,
     slot_idx: &mut u32,
 ) -> i32
-    ensures { λ r. ⌜ Found (peekDecision «read_idx» «used_msgs» «max_msgs» idx) (now («slot_idx» .entry)) r (now («slot_idx» .exit)) ⌝ }
+    ensures { λ r. ⌜ Decided (peekDecision «read_idx» «used_msgs» «max_msgs» idx) (now («slot_idx» .entry)) r (now («slot_idx» .exit)) ⌝ }
 {
     msgq::peek_at_decide(read_idx, used_msgs, max_msgs, idx, slot_idx)
 }
