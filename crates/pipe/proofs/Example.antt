@@ -13,7 +13,6 @@ use Rattle.pipe.specs.Pipe.{Pipe, write, read, taken}
 use Rattle.pipe.specs.Post.{layout, new, wakes, pends, writeDecision, readDecision}
 use Rattle.pipe.specs.History.{Call, writes, reads, resets, closes, clears, does, Event, Runs, stop, call, account, nothing}
 use Rattle.pipe.specs.HandOver.{flags}
-use Rattle.pipe.proofs.Histories.{}
 
 abbrev after : List Call → Pipe → Pipe
 after [] p = p
