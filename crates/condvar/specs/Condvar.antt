@@ -3,13 +3,13 @@ use mathlib.Core.Path.{_≡_}
 use mathlib.Core.Bool.{Bool, true, cond}
 use mathlib.Core.List.{List}
 use Prim.Native.Nat.{ℕ}
-use lib.IntN.{pos}
+use lib.IntN.{ℤ, pos}
 use lib.ListN.{length}
 use Rattle.seq.specs.List.{any}
 use Rattle.thread.specs.Code.{ok, eagain}
 use Rattle.wait_queue.specs.Turn.{waits}
 use Rattle.kind.specs.Verdict.{upTo, everybody, keep, park, wake, Verdict, deny, allow}
-use Rattle.kind.specs.Kind.{Kind}
+use Rattle.kind.specs.Kind.{Kind, balanced}
 
 pub data Call : Type 0 where
   signal broadcast wait tryWait : Call
@@ -27,6 +27,13 @@ decide n v q w wait = allow n (park tt) waits
 -- a wait that may not wait
 decide n v q w tryWait = deny eagain
 
+-- what a call owes to those that it wakes: a wait wakes nobody
+abbrev pub Owed : Call → ℤ → Type 0
+Owed signal r = r ≡ ok
+Owed broadcast r = r ≡ ok
+Owed wait r = ⊥
+Owed tryWait r = ⊥
+
 -- who waits, waits for a signal to come: none is kept
 abbrev pub condvar-kind : Kind
 condvar-kind =
@@ -37,5 +44,7 @@ condvar-kind =
       formed = formed;
       decide = decide;
       Blocked = λ n x. Unit {0};
-      Owes = λ k x r. r ≡ ok;
+      Owes = λ k x r. Owed k r;
+      new = λ n. true;
+      books = λ n w k r l. balanced n;
     }

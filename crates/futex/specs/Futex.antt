@@ -4,13 +4,13 @@ use mathlib.Core.Bool.{Bool, true, cond}
 use mathlib.Core.List.{List}
 use Prim.Native.Nat.{ℕ}
 use lib.Dec.{eqb}
-use lib.IntN.{pos}
+use lib.IntN.{ℤ, pos}
 use lib.ListN.{length}
 use Rattle.seq.specs.List.{any}
 use Rattle.thread.specs.Code.{ok, eagain}
 use Rattle.wait_queue.specs.Turn.{waits}
 use Rattle.kind.specs.Verdict.{upTo, everybody, keep, park, wake, Verdict, deny, allow}
-use Rattle.kind.specs.Kind.{Kind}
+use Rattle.kind.specs.Kind.{Kind, Balance, balanced, impossible, small}
 
 pub record Futex : Type 0 where
   pub val : ℕ
@@ -34,6 +34,20 @@ decide s v q w wakeAll = allow s (wake everybody (λ t. ok)) (pos (length q))
 -- another value; nobody is woken
 decide s v q w (set x) = allow (record { val = x }) keep ok
 
+-- what a call owes to those that it wakes: a wait and a set wake nobody
+abbrev pub Owed : Call → ℤ → Type 0
+Owed (wait x) r = ⊥
+Owed wakeOne r = r ≡ ok
+Owed wakeAll r = r ≡ ok
+Owed (set x) r = ⊥
+
+-- the books: the value is what was set last, and who waits found the value that it expected
+abbrev pub books : Futex → ℕ → Call → ℤ → List ℕ → Balance Futex
+books s w (wait x) r l = cond (eqb (s .val) x) (balanced s) impossible
+books s w wakeOne r l = balanced s
+books s w wakeAll r l = balanced s
+books s w (set x) r l = balanced (record { val = x })
+
 -- who waits, waits for a wake-up and not for a value: no value is what it waits for
 abbrev pub futex-kind : Kind
 futex-kind =
@@ -44,5 +58,7 @@ futex-kind =
       formed = formed;
       decide = decide;
       Blocked = λ s x. Unit {0};
-      Owes = λ k x r. r ≡ ok;
+      Owes = λ k x r. Owed k r;
+      new = λ s. small (s .val);
+      books = books;
     }

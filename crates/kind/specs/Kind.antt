@@ -1,12 +1,19 @@
 -- A kind of kernel object, and what it has to prove to get every law of this crate.
 use mathlib.Core.Path.{_≡_}
 use mathlib.Core.Bool.{Bool, true, false, cond}
-use mathlib.Core.List.{List}
+use mathlib.Core.List.{List, []}
 use Prim.Native.Nat.{ℕ}
+use lib.Dec.{ltb}
 use lib.IntN.{ℤ}
 use Rattle.seq.specs.List.{any, All}
 use Rattle.thread.specs.Code.{einval}
+use Rattle.wait_queue.specs.Turn.{waits}
 use Rattle.kind.specs.Verdict.{gone, left, keep, park, wake, Verdict, deny, allow}
+
+-- what the books say: the numbers are these now; or no object can have given that answer
+pub data Balance (N : Type 0) : Type 0 where
+  balanced : N → Balance N
+  impossible : Balance N
 
 pub record Kind : Type 1 where
   pub Num : Type 0
@@ -21,6 +28,10 @@ pub record Kind : Type 1 where
   pub Blocked : Num → Wish → Type 0
   -- the result that a call owes to one that it wakes and that waited with this wish
   pub Owes : Call → Wish → ℤ → Type 0
+  -- of which numbers a new object can be made
+  pub new : Num → Bool
+  -- the numbers after a call that was not refused, told by the caller, the call, its answer and the threads that it woke
+  pub books : Num → ℕ → Call → ℤ → List ℕ → Balance Num
 
 -- malformed numbers are refused first: this is what decide functions and objects answer
 abbrev pub judge : (K : Kind) → K .Num → (ℕ → K .Wish) → List ℕ → ℕ → K .Call → Verdict (K .Num) (K .Wish)
@@ -29,6 +40,10 @@ judge K n v q w k = cond (K .formed n (any q)) (K .decide n v q w k) (deny einva
 -- nobody of q waits for what is there
 abbrev pub Rightly : (K : Kind) → K .Num → (ℕ → K .Wish) → List ℕ → Type 0
 Rightly K n v q = All (λ t. K .Blocked n (v t)) q
+
+-- 32 bits
+abbrev pub small : ℕ → Bool
+small n = ltb n 4294967296
 
 -- nobody waits with a wish of its own
 abbrev pub plain : ℕ → Unit {0}
@@ -52,6 +67,13 @@ Right K v q k (allow n keep r) = Rightly K n v q
 Right K v q k (allow n (park x) r) = K .Blocked n x × Rightly K n v q
 Right K v q k (allow n (wake p f) r) = Rightly K n v (left itself p q) × All (λ t. K .Owes k (v t) (f t)) (gone itself p q)
 
+-- a verdict on the call k of the thread w leaves what the books say
+abbrev pub Booked : (K : Kind) → K .Num → List ℕ → ℕ → K .Call → Verdict (K .Num) (K .Wish) → Type 0
+Booked K n q w k (deny r) = Unit {0}
+Booked K n q w k (allow m keep r) = K .books n w k r [] ≡ balanced m
+Booked K n q w k (allow m (park x) r) = K .books n w k waits [] ≡ balanced m
+Booked K n q w k (allow m (wake p f) r) = K .books n w k r (gone itself p q) ≡ balanced m
+
 -- all that a kind has to prove
 pub record Lawful (K : Kind) : Type 0 where
   pub sound : (n : K .Num) (v : ℕ → K .Wish) (q : List ℕ) (w : ℕ) (k : K .Call) → K .formed n (any q) ≡ true
@@ -60,3 +82,8 @@ pub record Lawful (K : Kind) : Type 0 where
       → Right K v q k (K .decide n v q w k)
   -- who leaves changes no number
   pub fewer : (n : K .Num) → K .formed n true ≡ true → K .formed n false ≡ true
+  -- what is made is as it should be
+  pub made : (n : K .Num) → K .new n ≡ true → K .formed n false ≡ true
+  -- the books are right
+  pub booked : (n : K .Num) (v : ℕ → K .Wish) (q : List ℕ) (w : ℕ) (k : K .Call) → K .formed n (any q) ≡ true
+      → Booked K n q w k (K .decide n v q w k)

@@ -13,10 +13,9 @@ use Rattle.wait_queue.specs.Turn.{waits}
 use Rattle.kind.specs.Verdict.{keep, park, Verdict, deny, allow}
 use Rattle.kind.specs.Kind.{Lawful, Rightly, Sound, Right}
 use Rattle.kind.proofs.Picks.{all-of}
-use Rattle.mutex.specs.Mutex.{Owner, nobody, thread, Mutex, Call, lock, tryLock, unlock, release, held, formed, maxCount, released, locks, passes, unlocks, decide, mutex-kind}
-
-abbrev pub mk : Owner → ℕ → Mutex
-mk o c = record { owner = o; count = c }
+use Rattle.mutex.specs.Mutex.{Owner, nobody, thread, Mutex, Call, lock, tryLock, unlock, release, held, formed, maxCount, released, locks, passes, unlocks, decide, Owed, new, mutex-kind}
+use Rattle.mutex.proofs.Books.{books-right}
+pub use Rattle.mutex.proofs.Books.{mk}
 
 -- the numbers
 pub free-fine : (c : ℕ) (w : Bool) → c ≡ 0 → w ≡ false → formed (mk nobody c) w ≡ true
@@ -56,9 +55,9 @@ passes-sound : (q : List ℕ) → Sound mutex-kind q (passes q)
 passes-sound [] = refl
 passes-sound (t ∷ q) = refl
 
-passes-right : (v : ℕ → Unit {0}) (q : List ℕ) (k : Call) → Right mutex-kind v q k (passes q)
-passes-right v [] k = tt
-passes-right v (t ∷ q) k = (all-of (λ t. held (thread t) ≡ true) (λ t. refl) q, (refl, tt))
+passes-right : (v : ℕ → Unit {0}) (q : List ℕ) (k : Call) → Owed k ok → Right mutex-kind v q k (passes q)
+passes-right v [] k e = tt
+passes-right v (t ∷ q) k e = (all-of (λ t. held (thread t) ≡ true) (λ t. refl) q, (e, tt))
 
 module _ (v : ℕ → Unit {0}) (q : List ℕ) (w : ℕ) where
   unlocks-sound : (o : Owner) (c : ℕ) (d : Verdict Mutex (Unit {0})) → (1 < c → Sound mutex-kind q d) → Sound mutex-kind q (unlocks (mk o c) w q d)
@@ -70,13 +69,13 @@ module _ (v : ℕ → Unit {0}) (q : List ℕ) (w : ℕ) where
       go true false z = passes-sound q
       go false b z = tt
 
-  unlocks-right : (k : Call) (o : Owner) (c : ℕ) (d : Verdict Mutex (Unit {0})) → Right mutex-kind v q k d → Right mutex-kind v q k (unlocks (mk o c) w q d)
-  unlocks-right k nobody c d s = tt
-  unlocks-right k (thread i) c d s = go (eqb i w) (ltb 1 c)
+  unlocks-right : (k : Call) → Owed k ok → (o : Owner) (c : ℕ) (d : Verdict Mutex (Unit {0})) → Right mutex-kind v q k d → Right mutex-kind v q k (unlocks (mk o c) w q d)
+  unlocks-right k e nobody c d s = tt
+  unlocks-right k e (thread i) c d s = go (eqb i w) (ltb 1 c)
     where
       go : (a b : Bool) → Right mutex-kind v q k (cond a (cond b d (passes q)) (deny eperm))
       go true true = s
-      go true false = passes-right v q k
+      go true false = passes-right v q k e
       go false b = tt
 
 sound : (o : Owner) (c : ℕ) (v : ℕ → Unit {0}) (q : List ℕ) (w : ℕ) (k : Call) → formed (mk o c) (any q) ≡ true → Sound mutex-kind q (decide (mk o c) v q w k)
@@ -93,12 +92,20 @@ right : (o : Owner) (c : ℕ) (v : ℕ → Unit {0}) (q : List ℕ) (w : ℕ) (k
 right nobody c v q w lock f r = all-of (λ t. held (thread w) ≡ true) (λ t. refl) q
 right (thread i) c v q w lock f r = locks-right v q w lock (thread i) c (allow (mk (thread i) c) (park tt) waits) f r (refl, r)
 right o c v q w tryLock f r = locks-right v q w tryLock o c (deny ebusy) f r tt
-right o c v q w unlock f r = unlocks-right v q w unlock o c (allow (mk o (c - 1)) keep released) r
-right o c v q w release f r = unlocks-right v q w release o c (deny edeadlk) tt
+right o c v q w unlock f r = unlocks-right v q w unlock refl o c (allow (mk o (c - 1)) keep released) r
+right o c v q w release f r = unlocks-right v q w release refl o c (deny edeadlk) tt
 
 nobody-waits : (o : Owner) (c : ℕ) → formed (mk o c) true ≡ true → formed (mk o c) false ≡ true
 nobody-waits nobody c f = clash (free-empty c true f .1)
 nobody-waits (thread i) c f = f
+
+made : (m : Mutex) → new m ≡ true → formed m false ≡ true
+made m h = go (m .owner) (eqb (m .count) 0) refl h
+  where
+    go : (o : Owner) (b : Bool) → eqb (m .count) 0 ≡ b → cond (held o) false b ≡ true → formed (mk o (m .count)) false ≡ true
+    go nobody true y z = rw y
+    go nobody false y z = clash (sym z)
+    go (thread i) b y z = clash (sym z)
 
 pub mutex-lawful : Lawful mutex-kind
 mutex-lawful =
@@ -106,4 +113,6 @@ mutex-lawful =
       sound = λ n v q w k f. sound (n .owner) (n .count) v q w k f;
       right = λ n v q w k f r. right (n .owner) (n .count) v q w k f r;
       fewer = λ n f. nobody-waits (n .owner) (n .count) f;
+      made = made;
+      booked = λ n v q w k f. books-right (n .owner) (n .count) v q w k;
     }

@@ -4,11 +4,11 @@ use mathlib.Core.Bool.{Bool, true, false, cond, not}
 use mathlib.Core.List.{List, [], _∷_}
 use Prim.Native.Nat.{ℕ, suc, _-_}
 use lib.Dec.{eqb, ltb}
-use lib.IntN.{ℤ, pos}
+use lib.IntN.{ℤ, pos, negsuc}
 use Rattle.thread.specs.Code.{ok, eperm, ebusy, einval, edeadlk, eoverflow}
 use Rattle.wait_queue.specs.Turn.{waits}
 use Rattle.kind.specs.Verdict.{upTo, keep, park, wake, Verdict, deny, allow}
-use Rattle.kind.specs.Kind.{Kind}
+use Rattle.kind.specs.Kind.{Kind, Balance, balanced, impossible}
 
 pub data Owner : Type 0 where
   nobody : Owner
@@ -85,6 +85,41 @@ decide m v q w unlock = unlocks m w q (allow (counting (m .count - 1) m) keep re
 -- what a wait at a condition variable does to its mutex. Nested: the caller would wait and keep it
 decide m v q w release = unlocks m w q (deny edeadlk)
 
+-- what a call owes to those that it wakes: a lock wakes nobody
+abbrev pub Owed : Call → ℤ → Type 0
+Owed lock r = ⊥
+Owed tryLock r = ⊥
+Owed unlock r = r ≡ ok
+Owed release r = r ≡ ok
+
+-- it is made free
+abbrev pub new : Mutex → Bool
+new m = cond (held (m .owner)) false (eqb (m .count) 0)
+
+-- the books. Whose lock is answered 0 owns it: it was free, or its own, and has one lock more. Who waits for it found another's
+abbrev pub lockedBy : Mutex → ℕ → ℤ → Balance Mutex
+lockedBy m w (pos r) =
+    cond (held (m .owner))
+    (cond (owns w (m .owner)) (cond (eqb r 0) (balanced (counting (suc (m .count)) m)) impossible) (cond (eqb r 0) impossible (balanced m)))
+    (cond (eqb r 0) (balanced (taken w)) impossible)
+lockedBy m w (negsuc r) = impossible
+
+-- an unlock is its owner's. Answered 0 it has one lock less and keeps it; else it is free, or whoever was woken owns it
+abbrev pub handedTo : List ℕ → Balance Mutex
+handedTo [] = balanced free
+handedTo (t ∷ l) = balanced (taken t)
+
+abbrev pub unlockedBy : Mutex → ℕ → ℤ → List ℕ → Balance Mutex
+unlockedBy m w (pos r) l =
+    cond (owns w (m .owner)) (cond (eqb r 0) (cond (ltb 1 (m .count)) (balanced (counting (m .count - 1) m)) impossible) (handedTo l)) impossible
+unlockedBy m w (negsuc r) l = impossible
+
+abbrev pub books : Mutex → ℕ → Call → ℤ → List ℕ → Balance Mutex
+books m w lock r l = lockedBy m w r
+books m w tryLock r l = lockedBy m w r
+books m w unlock r l = unlockedBy m w r l
+books m w release r l = unlockedBy m w r l
+
 abbrev pub mutex-kind : Kind
 mutex-kind =
     record {
@@ -94,5 +129,7 @@ mutex-kind =
       formed = formed;
       decide = decide;
       Blocked = λ m x. held (m .owner) ≡ true;
-      Owes = λ k x r. r ≡ ok;
+      Owes = λ k x r. Owed k r;
+      new = new;
+      books = books;
     }

@@ -9,9 +9,10 @@ use borrow.Author.Tests.{lt-ltb, le-ltb, ltb-true, ltb-false, le-leb, lt-leb, le
 use Rattle.seq.specs.List.{any, All}
 use Rattle.seq.proofs.Order.{clash, cond-self, cond-same}
 use Rattle.thread.specs.Code.{eagain}
-use Rattle.kind.specs.Kind.{Lawful, Rightly, Sound, Right}
+use Rattle.kind.specs.Kind.{Lawful, Rightly, Sound, Right, small}
 use Rattle.kind.proofs.Picks.{all-of}
-use Rattle.sem.specs.Sem.{Sem, Call, give, take, tryTake, reset, formed, decide, sem-kind}
+use Rattle.sem.specs.Sem.{Sem, Call, give, take, tryTake, reset, formed, decide, new, sem-kind}
+use Rattle.sem.proofs.Books.{books-right}
 
 abbrev pub mk : ℕ → ℕ → Sem
 mk c l = record { count = c; limit = l }
@@ -126,10 +127,20 @@ right c l v q w tryTake f r = go (ltb 0 c) q refl r
     go false m z a = rw z tt
 right c l v q w reset f r = (tt, all-of (λ t. eagain ≡ eagain) (λ t. refl) q)
 
+-- what can be made
+made : (n : Sem) → new n ≡ true → formed n false ≡ true
+made n h = go (small (n .limit)) h
+  where
+    go : (b : Bool) → cond b (formed n false) false ≡ true → formed n false ≡ true
+    go true z = z
+    go false z = clash (sym z)
+
 pub sem-lawful : Lawful sem-kind
 sem-lawful =
     record {
       sound = λ n v q w k f. sound (n .count) (n .limit) v q w k f;
       right = λ n v q w k f r. right (n .count) (n .limit) v q w k f r;
       fewer = λ n f. nobody (n .count) (n .limit) f;
+      made = made;
+      booked = λ n v q w k f. books-right n v q w k;
     }

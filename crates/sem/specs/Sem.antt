@@ -4,13 +4,13 @@ use mathlib.Core.Bool.{Bool, true, false, cond}
 use mathlib.Core.List.{List}
 use Prim.Native.Nat.{ℕ, suc, _-_}
 use lib.Dec.{eqb, ltb, leb}
-use lib.IntN.{ℤ, pos}
+use lib.IntN.{ℤ, pos, negsuc}
 use lib.ListN.{length}
 use Rattle.seq.specs.List.{any}
 use Rattle.thread.specs.Code.{ok, eagain, ebusy}
 use Rattle.wait_queue.specs.Turn.{waits}
 use Rattle.kind.specs.Verdict.{upTo, everybody, keep, park, wake, Verdict, deny, allow}
-use Rattle.kind.specs.Kind.{Kind}
+use Rattle.kind.specs.Kind.{Kind, Balance, balanced, impossible, small}
 
 pub record Sem : Type 0 where
   pub count : ℕ
@@ -49,12 +49,35 @@ decide s v q w tryTake = cond (ltb 0 (s .count)) (allow (counting (s .count - 1)
 -- the count is 0 and all are woken with -11; the answer is their number
 decide s v q w reset = allow (counting 0 s) (wake everybody (λ t. eagain)) (pos (length q))
 
--- the result that a call owes to those that it wakes
-abbrev pub owed : Call → ℤ
-owed give = ok
-owed take = ok
-owed tryTake = ok
-owed reset = eagain
+-- what a call owes to those that it wakes: take and try_take wake nobody
+abbrev pub Owed : Call → ℤ → Type 0
+Owed give r = r ≡ ok
+Owed take r = ⊥
+Owed tryTake r = ⊥
+Owed reset r = r ≡ eagain
+
+-- of which numbers it can be made, in 32 bits
+abbrev pub new : Sem → Bool
+new s = cond (small (s .limit)) (formed s false) false
+
+-- the books. A take or a try_take that is answered 0 had one; one that waits had none to take
+abbrev pub tookOne : Sem → ℤ → Balance Sem
+tookOne s (pos r) = cond (eqb r 0) (cond (ltb 0 (s .count)) (balanced (counting (s .count - 1) s)) impossible) (cond (ltb 0 (s .count)) impossible (balanced s))
+tookOne s (negsuc r) = impossible
+
+-- a give that is answered 1 is counted, below the limit; 0 went to who waited, and 2 is lost, at the limit
+abbrev pub gaveOne : Sem → ℤ → List ℕ → Balance Sem
+gaveOne s (pos r) l =
+    cond (eqb r 1)
+    (cond (ltb (s .count) (s .limit)) (balanced (counting (suc (s .count)) s)) impossible)
+    (cond (eqb r 0) (cond (eqb (length l) 1) (balanced s) impossible) (cond (ltb (s .count) (s .limit)) impossible (balanced s)))
+gaveOne s (negsuc r) l = impossible
+
+abbrev pub books : Sem → ℕ → Call → ℤ → List ℕ → Balance Sem
+books s w give r l = gaveOne s r l
+books s w take r l = tookOne s r
+books s w tryTake r l = tookOne s r
+books s w reset r l = balanced (counting 0 s)
 
 abbrev pub sem-kind : Kind
 sem-kind =
@@ -65,5 +88,7 @@ sem-kind =
       formed = formed;
       decide = decide;
       Blocked = λ s x. s .count ≡ 0;
-      Owes = λ k x r. r ≡ owed k;
+      Owes = λ k x r. Owed k r;
+      new = new;
+      books = books;
     }

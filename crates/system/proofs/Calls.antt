@@ -35,17 +35,17 @@ object-is h = cc
 full : {N : Type 0} {n : N} {A : Type 0} → object n ≡ vacant → A
 full h = absurd (let x : _≡_ {A = ℕ} 0 1 = cc in omega arith)
 
-module _ {K : Kind} (new : K .Num → Bool) (s : Sys K) (g : Fine s) (i o : ℕ) (n : K .Num) (h : s .slot o ≡ object n) where
+module _ {K : Kind} (s : Sys K) (g : Fine s) (i o : ℕ) (n : K .Num) (h : s .slot o ≡ object n) where
   -- one object changes: the rules hold if they hold of it, and of the states everywhere
   module _ (d : Verdict (K .Num) (K .Wish)) (u : Out (K .Num))
-      (here : (t : ℕ) → times t (u .turn .queue) ≡ on o (serve new s i o d u .state t))
-      (there : (x t : ℕ) → (o ≡ x → ⊥) → times t (s .queue x) ≡ on x (serve new s i o d u .state t))
-      (right : Rightly K (u .num) (serve new s i o d u .wish) (map ident (u .turn .queue)))
-      (rights : (x : ℕ) (m : K .Num) → s .slot x ≡ object m → (o ≡ x → ⊥) → Rightly K m (serve new s i o d u .wish) (map ident (s .queue x)))
+      (here : (t : ℕ) → times t (u .turn .queue) ≡ on o (serve s i o d u .state t))
+      (there : (x t : ℕ) → (o ≡ x → ⊥) → times t (s .queue x) ≡ on x (serve s i o d u .state t))
+      (right : Rightly K (u .num) (serve s i o d u .wish) (map ident (u .turn .queue)))
+      (rights : (x : ℕ) (m : K .Num) → s .slot x ≡ object m → (o ≡ x → ⊥) → Rightly K m (serve s i o d u .wish) (map ident (s .queue x)))
       (form : K .formed (u .num) (any (u .turn .queue)) ≡ true) (well : Well (u .turn .queue))
       (own : All (λ x. x ≡ entry (s .prio (ident x)) (ident x)) (u .turn .queue))
-      (known : (t : ℕ) → (serve new s i o d u .state t ≡ absent → ⊥) → s .state t ≡ absent → ⊥) where
-    changed : Fine (serve new s i o d u)
+      (known : (t : ℕ) → (serve s i o d u .state t ≡ absent → ⊥) → s .state t ≡ absent → ⊥) where
+    changed : Fine (serve s i o d u)
     changed =
         record {
           placed = λ x t. at-place x t (eqb o x) refl;
@@ -57,12 +57,12 @@ module _ {K : Kind} (new : K .Num → Bool) (s : Sys K) (g : Fine s) (i o : ℕ)
           known = λ t z. g .known t (known t z);
         }
       where
-        at-place : (x t : ℕ) (b : Bool) → eqb o x ≡ b → times t (cond b (u .turn .queue) (s .queue x)) ≡ on x (serve new s i o d u .state t)
+        at-place : (x t : ℕ) (b : Bool) → eqb o x ≡ b → times t (cond b (u .turn .queue) (s .queue x)) ≡ on x (serve s i o d u .state t)
         at-place x t true e = rw (sym (eqb-true o x e)) (here t)
         at-place x t false e = there x t (eqb-false o x e)
 
         at-kept : (x : ℕ) (m : K .Num) (b : Bool) → eqb o x ≡ b → cond b (object (u .num)) (s .slot x) ≡ object m
-            → Rightly K m (serve new s i o d u .wish) (map ident (cond b (u .turn .queue) (s .queue x)))
+            → Rightly K m (serve s i o d u .wish) (map ident (cond b (u .turn .queue) (s .queue x)))
         at-kept x m true e z = rw (sym (object-is z)) right
         at-kept x m false e z = rights x m z (eqb-false o x e)
 
@@ -91,7 +91,7 @@ module _ {K : Kind} (new : K .Num → Bool) (s : Sys K) (g : Fine s) (i o : ℕ)
 
   -- nobody joins and nobody is woken
   stays : (m : K .Num) (r : ℤ) → K .formed m (any q) ≡ true → Rightly K m (s .wish) (map ident q)
-      → Fine (serve new s i o (allow m keep r) (carried {W = K .Wish} (thread i (s .prio i) 1) (allow m keep r) n q))
+      → Fine (serve s i o (allow m keep r) (carried {W = K .Wish} (thread i (s .prio i) 1) (allow m keep r) n q))
   stays m r f k =
       changed (allow m keep r) (carried {W = K .Wish} (thread i (s .prio i) 1) (allow m keep r) n q) (λ t. g .placed o t) (λ x t e. g .placed x t) k elsewhere f (g .queues o) (g .own o)
       (λ t z. z)
@@ -121,7 +121,7 @@ module _ {K : Kind} (new : K .Num → Bool) (s : Sys K) (g : Fine s) (i o : ℕ)
     known-woken t true z c = λ a. let v : waiting o ≡ absent = sym (waited t z) ∙ a in absurd (let x : _≡_ {A = ℕ} 0 1 = cc in omega arith)
     known-woken t false z c = rw z at c
 
-    wakes : K .formed m (any (left ident p q)) ≡ true → Rightly K m (s .wish) (map ident (left ident p q)) → Fine (serve new s i o some (carried (thread i (s .prio i) 1) some n q))
+    wakes : K .formed m (any (left ident p q)) ≡ true → Rightly K m (s .wish) (map ident (left ident p q)) → Fine (serve s i o some (carried (thread i (s .prio i) 1) some n q))
     wakes c k =
         changed some (carried (thread i (s .prio i) 1) some n q) (λ t. here-woken t (holds t (gone ident p q)) refl) (λ x t e. there-woken x t e (holds t (gone ident p q)) refl) k elsewhere c
         (well-sub (left-sub ident p q) (g .queues o)) (sub-holds _ (left-sub ident p q) (g .own o)) (λ t z. known-woken t (holds t (gone ident p q)) refl z)
@@ -168,7 +168,7 @@ module _ {K : Kind} (new : K .Num → Bool) (s : Sys K) (g : Fine s) (i o : ℕ)
         all-two (λ y. Other i y) (λ y. K .Blocked k (s .wish (ident y))) (λ y. K .Blocked k (upd (s .wish) i x (ident y))) l
         (λ y n b. rw (ne-eqb i (ident y) (λ e. n (sym e))) b) (holds-none i l z) (all-list (λ t. K .Blocked k (s .wish t)) l a)
 
-    waits : K .formed m true ≡ true → K .Blocked m x → Rightly K m (s .wish) (map ident q) → Fine (serve new s i o wait joins)
+    waits : K .formed m true ≡ true → K .Blocked m x → Rightly K m (s .wish) (map ident q) → Fine (serve s i o wait joins)
     waits f b k =
         changed wait joins (λ t. times-joined t w q ∙ rw its (here-joined t (eqb i t) refl)) (λ y t n. there-joined y t n (eqb i t) refl)
         (list-all (λ t. K .Blocked m (upd (s .wish) i x t)) (joined w q)
@@ -180,13 +180,13 @@ module _ {K : Kind} (new : K .Num → Bool) (s : Sys K) (g : Fine s) (i o : ℕ)
 
   -- a verdict
   pub by-verdict : (law : Lawful K) (k : K .Call) → s .state i ≡ running
-      → Fine (unless (carried (thread i (s .prio i) 1) (K .decide n (s .wish) (map ident q) i k) n q .turn .code) s (serve new s i o (K .decide n (s .wish) (map ident q) i k) (carried (thread i (s .prio i) 1) (K .decide n (s .wish) (map ident q) i k) n q)))
+      → Fine (unless (carried (thread i (s .prio i) 1) (K .decide n (s .wish) (map ident q) i k) n q .turn .code) s (serve s i o (K .decide n (s .wish) (map ident q) i k) (carried (thread i (s .prio i) 1) (K .decide n (s .wish) (map ident q) i k) n q)))
   by-verdict law k run =
       let f : K .formed n (any (map ident q)) ≡ true = rw (any-map ident q) (g .formed o n h) in
       go (K .decide n (s .wish) (map ident q) i k) (law .sound n (s .wish) (map ident q) i k f) (law .right n (s .wish) (map ident q) i k f (g .kept o n h))
     where
       go : (d : Verdict (K .Num) (K .Wish)) → Sound K (map ident q) d → Right K (s .wish) (map ident q) k d
-          → Fine (unless (carried (thread i (s .prio i) 1) d n q .turn .code) s (serve new s i o d (carried (thread i (s .prio i) 1) d n q)))
+          → Fine (unless (carried (thread i (s .prio i) 1) d n q .turn .code) s (serve s i o d (carried (thread i (s .prio i) 1) d n q)))
       go (deny (negsuc c)) a b = g
       go (deny (pos c)) a b =
           changed (deny (pos c)) (carried {W = K .Wish} (thread i (s .prio i) 1) (deny (pos c)) n q) (λ t. g .placed o t) (λ x t e. g .placed x t) (g .kept o n h) elsewhere (g .formed o n h) (g .queues o) (g .own o)
@@ -199,7 +199,7 @@ module _ {K : Kind} (new : K .Num → Bool) (s : Sys K) (g : Fine s) (i o : ℕ)
       go (allow m (park x) c) a b = parks (holds (ident (entry (s .prio i) i)) q) (ltb (length q) maxWaiters) refl refl
         where
           parks : (j l : Bool) → holds (ident (entry (s .prio i) i)) q ≡ j → ltb (length q) maxWaiters ≡ l
-              → Fine (unless (carried (thread i (s .prio i) 1) (allow m (park x) c) n q .turn .code) s (serve new s i o (allow m (park x) c) (carried (thread i (s .prio i) 1) (allow m (park x) c) n q)))
+              → Fine (unless (carried (thread i (s .prio i) 1) (allow m (park x) c) n q .turn .code) s (serve s i o (allow m (park x) c) (carried (thread i (s .prio i) 1) (allow m (park x) c) n q)))
           parks true l y z = rw y g
           parks false true y z = rw (y, z) (waits x m c run (ltb-true (length q) maxWaiters z) a (b .0) (b .1))
           parks false false y z = rw (y, z) g
@@ -223,25 +223,25 @@ runs p (waiting o) c z = never (valid p) z
     never true y = absurd (let x : _≡_ {A = ℕ} 0 1 = cc in omega arith)
     never false y = absurd (let x : _≡_ {A = ℕ} 0 1 = cc in omega arith)
 
-module _ {K : Kind} (new : K .Num → Bool) (s : Sys K) (i o : ℕ) (k : K .Call) (n : K .Num) (f : K .formed n (any (s .queue o)) ≡ true) where
+module _ {K : Kind} (s : Sys K) (i o : ℕ) (k : K .Call) (n : K .Num) (f : K .formed n (any (s .queue o)) ≡ true) where
   -- a caller that does not run is refused
-  pub barred : (c : ℕ) → callerCode (s .prio i) (number (s .state i)) ≡ negsuc c → outcome new s i o k n ≡ refused (negsuc c) n (s .queue o)
+  pub barred : (c : ℕ) → callerCode (s .prio i) (number (s .state i)) ≡ negsuc c → outcome s i o k n ≡ refused (negsuc c) n (s .queue o)
   barred c z = rw (f, z)
 
   -- and one that runs gets what the object decides
-  pub granted : (c : ℕ) → callerCode (s .prio i) (number (s .state i)) ≡ pos c → outcome new s i o k n ≡ carried (thread i (s .prio i) 1) (verdict new s i o k n) n (s .queue o)
+  pub granted : (c : ℕ) → callerCode (s .prio i) (number (s .state i)) ≡ pos c → outcome s i o k n ≡ carried (thread i (s .prio i) 1) (verdict s i o k n) n (s .queue o)
   granted c z =
       let r : s .state i ≡ running = runs (s .prio i) (s .state i) c z in
       let y : callerCode (s .prio i) 1 ≡ pos c = rw r at z in
       rw (f, r, y)
 
-pub called-fine : {K : Kind} (new : K .Num → Bool) → Lawful K → (s : Sys K) → Fine s → (i o : ℕ) (k : K .Call) → Fine (called new s i o k .0)
-called-fine {K} new law s g i o k = go (s .slot o) refl
+pub called-fine : {K : Kind} → Lawful K → (s : Sys K) → Fine s → (i o : ℕ) (k : K .Call) → Fine (called s i o k .0)
+called-fine {K} law s g i o k = go (s .slot o) refl
   where
-    go : (x : Slot (K .Num)) → s .slot o ≡ x → Fine (visited new x s i o k .0)
+    go : (x : Slot (K .Num)) → s .slot o ≡ x → Fine (visited x s i o k .0)
     go vacant h = g
     go (object n) h = by (callerCode (s .prio i) (number (s .state i))) refl
       where
-        by : (z : ℤ) → callerCode (s .prio i) (number (s .state i)) ≡ z → Fine (visited new (object n) s i o k .0)
-        by (negsuc c) z = rw (barred new s i o k n (g .formed o n h) c z) g
-        by (pos c) z = rw (granted new s i o k n (g .formed o n h) c z) (by-verdict new s g i o n h law k (runs (s .prio i) (s .state i) c z))
+        by : (z : ℤ) → callerCode (s .prio i) (number (s .state i)) ≡ z → Fine (visited (object n) s i o k .0)
+        by (negsuc c) z = rw (barred s i o k n (g .formed o n h) c z) g
+        by (pos c) z = rw (granted s i o k n (g .formed o n h) c z) (by-verdict s g i o n h law k (runs (s .prio i) (s .state i) c z))

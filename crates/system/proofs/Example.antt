@@ -13,10 +13,10 @@ use Rattle.mutex.specs.Mutex as mutex
 use Rattle.condvar.specs.Condvar as condvar
 use Rattle.system.specs.System.{State, absent, running, ready, waiting, Slot, vacant, object, Sys, Op, invoke, both, dispatch, expire, spawn, create, Answer, done, denied, step, after}
 use Rattle.system.specs.Rules.{Fine, Start}
-use Rattle.system.specs.Rtos.{rtos, aSem, aMutex, aCondvar, semCall, mutexCall, condvarCall, new}
+use Rattle.system.specs.Rtos.{rtos, aSem, aMutex, aCondvar, semCall, mutexCall, condvarCall}
 use Rattle.system.specs.Link.{Is}
 use Rattle.system.proofs.Steps.{always}
-use Rattle.system.proofs.Sum.{rtos-lawful, rtos-new}
+use Rattle.system.proofs.Sum.{rtos-lawful}
 
 -- no threads and no objects
 abbrev bare : Sys rtos
@@ -39,23 +39,23 @@ given (suc n) = invoke 1 0 (semCall give) ∷ given n
 pub bare-start : Start bare
 bare-start = record { none = λ o. refl; empty = λ o. refl; awake = λ o t. refl; known = λ t n. absurd (n refl) }
 
-pub all-fine : (past : List (Op rtos)) → Fine (after new bare past)
-all-fine = always new rtos-new rtos-lawful bare bare-start
+pub all-fine : (past : List (Op rtos)) → Fine (after bare past)
+all-fine = always rtos-lawful bare bare-start
 
 -- the queue is 3, 7, 9
-pub queue-is : map ident (after new bare taken .queue 0) ≡ 3 ∷ 7 ∷ 9 ∷ []
+pub queue-is : map ident (after bare taken .queue 0) ≡ 3 ∷ 7 ∷ 9 ∷ []
 unfolding maxWaiters
 queue-is = refl
 
 -- the state of a thread, a semaphore of this count, and the answer to one more operation
 abbrev at : List (Op rtos) → ℕ → State
-at past t = after new bare past .state t
+at past t = after bare past .state t
 
 abbrev counted : ℕ → Slot (rtos .Num)
 counted c = object (aSem (record { count = c; limit = 2 }))
 
 abbrev says : List (Op rtos) → Op rtos → Answer
-says past x = step new (after new bare past) x .1
+says past x = step (after bare past) x .1
 
 -- a take is answered 1, and its thread waits
 pub takers-wait : (says begun (invoke 7 0 (semCall take)) ≡ done (pos 1)) × (at taken 7 ≡ waiting 0) × (at taken 3 ≡ waiting 0) × (at taken 9 ≡ waiting 0) × (at taken 1 ≡ running)
@@ -71,17 +71,17 @@ pub second-woken : (at (given 2) 3 ≡ ready ok) × (at (given 2) 7 ≡ ready ok
 unfolding maxWaiters
 second-woken = (refl, refl, refl)
 
-pub third-woken : (at (given 3) 9 ≡ ready ok) × (after new bare (given 3) .queue 0 ≡ [])
+pub third-woken : (at (given 3) 9 ≡ ready ok) × (after bare (given 3) .queue 0 ≡ [])
 unfolding maxWaiters
 third-woken = (refl, refl)
 
 -- the count stays 0, and then is 1, 2, 2
-pub counts-stay : (after new bare taken .slot 0 ≡ counted 0) × (after new bare (given 1) .slot 0 ≡ counted 0) × (after new bare (given 2) .slot 0 ≡ counted 0)
-    × (after new bare (given 3) .slot 0 ≡ counted 0)
+pub counts-stay : (after bare taken .slot 0 ≡ counted 0) × (after bare (given 1) .slot 0 ≡ counted 0) × (after bare (given 2) .slot 0 ≡ counted 0)
+    × (after bare (given 3) .slot 0 ≡ counted 0)
 unfolding maxWaiters
 counts-stay = (refl, refl, refl, refl)
 
-pub counts-rise : (after new bare (given 4) .slot 0 ≡ counted 1) × (after new bare (given 5) .slot 0 ≡ counted 2) × (after new bare (given 6) .slot 0 ≡ counted 2)
+pub counts-rise : (after bare (given 4) .slot 0 ≡ counted 1) × (after bare (given 5) .slot 0 ≡ counted 2) × (after bare (given 6) .slot 0 ≡ counted 2)
 unfolding maxWaiters
 counts-rise = (refl, refl, refl)
 
@@ -93,7 +93,7 @@ give-answers = (refl, refl, refl)
 
 -- a woken thread gets 0 when it runs, and one whose time is over -11
 pub results : (says (given 1) (dispatch 3) ≡ done ok) × (at (dispatch 3 ∷ given 1) 3 ≡ running)
-    × (says (expire 7 ∷ given 1) (dispatch 7) ≡ done eagain) × (map ident (after new bare (expire 7 ∷ given 1) .queue 0) ≡ 9 ∷ [])
+    × (says (expire 7 ∷ given 1) (dispatch 7) ≡ done eagain) × (map ident (after bare (expire 7 ∷ given 1) .queue 0) ≡ 9 ∷ [])
 unfolding maxWaiters
 results = (refl, refl, refl, refl)
 
@@ -125,8 +125,8 @@ abbrev wanted : List (Op rtos)
 wanted = invoke 3 0 (mutexCall mutex.lock) ∷ locked
 
 -- the wait of 7 hands the mutex to 3
-pub waited : (at (awaits 7 ∷ wanted) 3 ≡ ready ok) × (after new bare (awaits 7 ∷ wanted) .slot 0 ≡ object (aMutex (mutex.taken 3)))
-    × (at (awaits 7 ∷ wanted) 7 ≡ waiting 1) × (map ident (after new bare (awaits 7 ∷ wanted) .queue 1) ≡ 7 ∷ []) × (says wanted (awaits 7) ≡ done (pos 2))
+pub waited : (at (awaits 7 ∷ wanted) 3 ≡ ready ok) × (after bare (awaits 7 ∷ wanted) .slot 0 ≡ object (aMutex (mutex.taken 3)))
+    × (at (awaits 7 ∷ wanted) 7 ≡ waiting 1) × (map ident (after bare (awaits 7 ∷ wanted) .queue 1) ≡ 7 ∷ []) × (says wanted (awaits 7) ≡ done (pos 2))
 unfolding maxWaiters
 waited = (refl, refl, refl, refl, refl)
 
@@ -134,7 +134,7 @@ waited = (refl, refl, refl, refl, refl)
 abbrev signalled : List (Op rtos)
 signalled = invoke 3 0 (mutexCall mutex.unlock) ∷ invoke 3 1 (condvarCall condvar.signal) ∷ dispatch 3 ∷ awaits 7 ∷ wanted
 
-pub resumed : (says signalled (dispatch 7) ≡ done ok) × (after new bare signalled .slot 0 ≡ object (aMutex mutex.free)) × (after new bare signalled .queue 1 ≡ [])
+pub resumed : (says signalled (dispatch 7) ≡ done ok) × (after bare signalled .slot 0 ≡ object (aMutex mutex.free)) × (after bare signalled .queue 1 ≡ [])
 unfolding maxWaiters
 resumed = (refl, refl, refl)
 
@@ -142,7 +142,7 @@ resumed = (refl, refl, refl)
 pub neither : (says locked (awaits 3) ≡ denied eperm) × (at (awaits 3 ∷ locked) 3 ≡ running)
     × (says (invoke 7 0 (mutexCall mutex.lock) ∷ locked) (awaits 7) ≡ denied edeadlk)
     × (says locked (both 7 0 (mutexCall mutex.release) 2 (condvarCall condvar.wait)) ≡ denied einval)
-    × (after new bare (both 7 0 (mutexCall mutex.release) 2 (condvarCall condvar.wait) ∷ locked) .slot 0 ≡ object (aMutex (mutex.taken 7)))
+    × (after bare (both 7 0 (mutexCall mutex.release) 2 (condvarCall condvar.wait) ∷ locked) .slot 0 ≡ object (aMutex (mutex.taken 7)))
 unfolding maxWaiters
 neither = (refl, refl, refl, refl, refl)
 
@@ -151,17 +151,17 @@ abbrev zeros : ℕ → List ℕ
 zeros zero = []
 zeros (suc n) = 0 ∷ zeros n
 
-pub in-memory : Is layout aSem (after new bare begun) 0 (0 ∷ 2 ∷ 0 ∷ []) (zeros 64)
+pub in-memory : Is layout aSem (after bare begun) 0 (0 ∷ 2 ∷ 0 ∷ []) (zeros 64)
 unfolding maxWaiters
 in-memory = record { words = omega arith; room = refl; slot = refl; queue = refl }
 
-pub in-memory-taken : Is layout aSem (after new bare taken) 0 (0 ∷ 2 ∷ 3 ∷ []) (entry 5 9 ∷ entry 5 7 ∷ entry 2 3 ∷ zeros 61)
+pub in-memory-taken : Is layout aSem (after bare taken) 0 (0 ∷ 2 ∷ 3 ∷ []) (entry 5 9 ∷ entry 5 7 ∷ entry 2 3 ∷ zeros 61)
 unfolding maxWaiters
 in-memory-taken = record { words = omega arith; room = refl; slot = refl; queue = refl }
 
 -- a reset wakes all three, each with -11, and answers 3; with nobody waiting it answers 0
-pub reset-all : (after new bare (invoke 1 0 (semCall reset) ∷ taken) .state 3 ≡ ready eagain) × (after new bare (invoke 1 0 (semCall reset) ∷ taken) .state 7 ≡ ready eagain)
-    × (after new bare (invoke 1 0 (semCall reset) ∷ taken) .state 9 ≡ ready eagain) × (after new bare (invoke 1 0 (semCall reset) ∷ taken) .queue 0 ≡ [])
-    × (step new (after new bare taken) (invoke 1 0 (semCall reset)) .1 ≡ done (pos 3)) × (step new (after new bare begun) (invoke 1 0 (semCall reset)) .1 ≡ done (pos 0))
+pub reset-all : (after bare (invoke 1 0 (semCall reset) ∷ taken) .state 3 ≡ ready eagain) × (after bare (invoke 1 0 (semCall reset) ∷ taken) .state 7 ≡ ready eagain)
+    × (after bare (invoke 1 0 (semCall reset) ∷ taken) .state 9 ≡ ready eagain) × (after bare (invoke 1 0 (semCall reset) ∷ taken) .queue 0 ≡ [])
+    × (step (after bare taken) (invoke 1 0 (semCall reset)) .1 ≡ done (pos 3)) × (step (after bare begun) (invoke 1 0 (semCall reset)) .1 ≡ done (pos 0))
 unfolding maxWaiters
 reset-all = (refl, refl, refl, refl, refl, refl)

@@ -37,7 +37,7 @@ use Rattle.futex.specs.Post.{wakeCall, wakeOut, setOut}
 use Rattle.system.specs.Sum.{Member, _⊕_, mapped, onRight}
 use Rattle.system.specs.System.{State, running, number, vacant, Sys, create, reply, outcome, verdict, called, answers}
 use Rattle.system.specs.Rules.{Fine}
-use Rattle.system.specs.Rtos.{sems, mutexes, condvars, futexes, rtos, aSem, aMutex, aCondvar, aFutex, semCall, mutexCall, condvarCall, futexCall, new}
+use Rattle.system.specs.Rtos.{sems, mutexes, condvars, futexes, rtos, aSem, aMutex, aCondvar, aFutex, semCall, mutexCall, condvarCall, futexCall}
 use Rattle.system.specs.Link.{wrapped, Is, HandsOut, Steps, Pairs, Turns}
 use Rattle.system.proofs.Calls.{runs, barred, called-fine}
 use Rattle.system.proofs.Sum.{rtos-lawful}
@@ -85,86 +85,86 @@ module _ (s : Sys rtos) (g : Fine s) (i o : ℕ) (h e : List ℕ) (r : ℤ) (h' 
   module _ (m : Is semaphore.layout aSem s o h e) where
     -- the thread's numbers are handed over
     pub take-blocking-steps : Does semaphore.layout (takeOut i (s .prio i) (number (s .state i))) h e r h' e'
-        → Steps new semaphore.layout aSem s i o (semCall sem.take) (takeOut i (s .prio i) (number (s .state i))) h e r h' e'
+        → Steps semaphore.layout aSem s i o (semCall sem.take) (takeOut i (s .prio i) (number (s .state i))) h e r h' e'
     take-blocking-steps =
-        by-thread new rtos-lawful sem-kind plain semaphore.layout aSem semCall s g i o h e m (λ w k n. sem-part (s .wish) w (s .queue o) k n) sem.take r h' e'
+        by-thread rtos-lawful sem-kind plain semaphore.layout aSem semCall s g i o h e m (λ w k n. sem-part (s .wish) w (s .queue o) k n) sem.take r h' e'
 
     -- the thread runs
     module _ (run : s .state i ≡ running) where
-      pub give-steps : Does semaphore.layout giveOut h e r h' e' → Steps new semaphore.layout aSem s i o (semCall sem.give) giveOut h e r h' e'
+      pub give-steps : Does semaphore.layout giveOut h e r h' e' → Steps semaphore.layout aSem s i o (semCall sem.give) giveOut h e r h' e'
       give-steps =
-          by-name new rtos-lawful sem-kind plain semaphore.layout aSem semCall s g i o h e m (λ w k n. sem-part (s .wish) w (s .queue o) k n) sem.give r h' e' 0 run refl
+          by-name rtos-lawful sem-kind plain semaphore.layout aSem semCall s g i o h e m (λ w k n. sem-part (s .wish) w (s .queue o) k n) sem.give r h' e' 0 run refl
           (unparked (any (map ident (s .queue o))) _ _ tt (unparked (ltb (semaphore.layout .num h .count) (semaphore.layout .num h .limit)) _ _ tt tt))
 
-      pub try-take-steps : Does semaphore.layout tryTakeOut h e r h' e' → Steps new semaphore.layout aSem s i o (semCall sem.tryTake) tryTakeOut h e r h' e'
+      pub try-take-steps : Does semaphore.layout tryTakeOut h e r h' e' → Steps semaphore.layout aSem s i o (semCall sem.tryTake) tryTakeOut h e r h' e'
       try-take-steps =
-          by-name new rtos-lawful sem-kind plain semaphore.layout aSem semCall s g i o h e m (λ w k n. sem-part (s .wish) w (s .queue o) k n) sem.tryTake r h' e' 0 run refl
+          by-name rtos-lawful sem-kind plain semaphore.layout aSem semCall s g i o h e m (λ w k n. sem-part (s .wish) w (s .queue o) k n) sem.tryTake r h' e' 0 run refl
           (unparked (ltb 0 (semaphore.layout .num h .count)) _ _ tt tt)
 
       -- with room for all that wait
-      pub reset-steps : (room : ℕ) → length (s .queue o) ≤ room → Does semaphore.layout (resetOut room) h e r h' e' → Steps new semaphore.layout aSem s i o (semCall sem.reset) (resetOut room) h e r h' e'
+      pub reset-steps : (room : ℕ) → length (s .queue o) ≤ room → Does semaphore.layout (resetOut room) h e r h' e' → Steps semaphore.layout aSem s i o (semCall sem.reset) (resetOut room) h e r h' e'
       reset-steps =
-          by-room new rtos-lawful sem-kind plain semaphore.layout aSem semCall s g i o h e m (λ w k n. sem-part (s .wish) w (s .queue o) k n) sem.reset r h' e' 0 run refl tt
+          by-room rtos-lawful sem-kind plain semaphore.layout aSem semCall s g i o h e m (λ w k n. sem-part (s .wish) w (s .queue o) k n) sem.reset r h' e' 0 run refl tt
 
   module _ (m : Is lock.layout aMutex s o h e) where
     pub lock-blocking-steps : Does lock.layout (lockOut i (s .prio i) (number (s .state i))) h e r h' e'
-        → Steps new lock.layout aMutex s i o (mutexCall mutex.lock) (lockOut i (s .prio i) (number (s .state i))) h e r h' e'
+        → Steps lock.layout aMutex s i o (mutexCall mutex.lock) (lockOut i (s .prio i) (number (s .state i))) h e r h' e'
     lock-blocking-steps =
-        by-thread new rtos-lawful mutex-kind plain lock.layout aMutex mutexCall s g i o h e m (λ w k n. mutex-part (s .wish) w (s .queue o) k n) mutex.lock r h' e'
+        by-thread rtos-lawful mutex-kind plain lock.layout aMutex mutexCall s g i o h e m (λ w k n. mutex-part (s .wish) w (s .queue o) k n) mutex.lock r h' e'
 
     -- as a part of a wait at a condition variable
     pub release-steps : Does lock.layout (releaseOut i (s .prio i) (number (s .state i))) h e r h' e'
-        → Steps new lock.layout aMutex s i o (mutexCall mutex.release) (releaseOut i (s .prio i) (number (s .state i))) h e r h' e'
+        → Steps lock.layout aMutex s i o (mutexCall mutex.release) (releaseOut i (s .prio i) (number (s .state i))) h e r h' e'
     release-steps =
-        by-thread new rtos-lawful mutex-kind plain lock.layout aMutex mutexCall s g i o h e m (λ w k n. mutex-part (s .wish) w (s .queue o) k n) mutex.release r h' e'
+        by-thread rtos-lawful mutex-kind plain lock.layout aMutex mutexCall s g i o h e m (λ w k n. mutex-part (s .wish) w (s .queue o) k n) mutex.release r h' e'
 
     module _ (run : s .state i ≡ running) where
-      pub try-lock-steps : Does lock.layout (tryLockOut i) h e r h' e' → Steps new lock.layout aMutex s i o (mutexCall mutex.tryLock) (tryLockOut i) h e r h' e'
+      pub try-lock-steps : Does lock.layout (tryLockOut i) h e r h' e' → Steps lock.layout aMutex s i o (mutexCall mutex.tryLock) (tryLockOut i) h e r h' e'
       try-lock-steps =
-          by-name new rtos-lawful mutex-kind plain lock.layout aMutex mutexCall s g i o h e m (λ w k n. mutex-part (s .wish) w (s .queue o) k n) mutex.tryLock r h' e' i run refl
+          by-name rtos-lawful mutex-kind plain lock.layout aMutex mutexCall s g i o h e m (λ w k n. mutex-part (s .wish) w (s .queue o) k n) mutex.tryLock r h' e' i run refl
           (locks-unparked (lock.layout .num h) i (deny ebusy) tt)
 
-      pub unlock-steps : Does lock.layout (unlockOut i) h e r h' e' → Steps new lock.layout aMutex s i o (mutexCall mutex.unlock) (unlockOut i) h e r h' e'
+      pub unlock-steps : Does lock.layout (unlockOut i) h e r h' e' → Steps lock.layout aMutex s i o (mutexCall mutex.unlock) (unlockOut i) h e r h' e'
       unlock-steps =
-          by-name new rtos-lawful mutex-kind plain lock.layout aMutex mutexCall s g i o h e m (λ w k n. mutex-part (s .wish) w (s .queue o) k n) mutex.unlock r h' e' i run refl
+          by-name rtos-lawful mutex-kind plain lock.layout aMutex mutexCall s g i o h e m (λ w k n. mutex-part (s .wish) w (s .queue o) k n) mutex.unlock r h' e' i run refl
           (unlocks-unparked (lock.layout .num h) i (map ident (s .queue o)) _ tt)
 
   module _ (m : Is condition.layout (λ x. aCondvar) s o h e) where
     module _ (run : s .state i ≡ running) where
-      pub signal-steps : Does condition.layout signalOut h e r h' e' → Steps new condition.layout (λ x. aCondvar) s i o (condvarCall condvar.signal) signalOut h e r h' e'
+      pub signal-steps : Does condition.layout signalOut h e r h' e' → Steps condition.layout (λ x. aCondvar) s i o (condvarCall condvar.signal) signalOut h e r h' e'
       signal-steps =
-          by-name new rtos-lawful condvar-kind plain condition.layout (λ x. aCondvar) condvarCall s g i o h e m (λ w k n. condvar-part (s .wish) w (s .queue o) k n) condvar.signal r h' e' 0 run refl
+          by-name rtos-lawful condvar-kind plain condition.layout (λ x. aCondvar) condvarCall s g i o h e m (λ w k n. condvar-part (s .wish) w (s .queue o) k n) condvar.signal r h' e' 0 run refl
           (unparked (any (map ident (s .queue o))) _ _ tt tt)
 
-      pub broadcast-steps : (room : ℕ) → length (s .queue o) ≤ room → Does condition.layout (broadcastOut room) h e r h' e' → Steps new condition.layout (λ x. aCondvar) s i o (condvarCall condvar.broadcast) (broadcastOut room) h e r h' e'
+      pub broadcast-steps : (room : ℕ) → length (s .queue o) ≤ room → Does condition.layout (broadcastOut room) h e r h' e' → Steps condition.layout (λ x. aCondvar) s i o (condvarCall condvar.broadcast) (broadcastOut room) h e r h' e'
       broadcast-steps =
-          by-room new rtos-lawful condvar-kind plain condition.layout (λ x. aCondvar) condvarCall s g i o h e m (λ w k n. condvar-part (s .wish) w (s .queue o) k n) condvar.broadcast r h' e' 0 run refl tt
+          by-room rtos-lawful condvar-kind plain condition.layout (λ x. aCondvar) condvarCall s g i o h e m (λ w k n. condvar-part (s .wish) w (s .queue o) k n) condvar.broadcast r h' e' 0 run refl tt
 
   module _ (m : Is word.layout aFutex s o h e) where
     pub futex-wait-steps : (x : ℕ) → Does word.layout (word.waitOut x i (s .prio i) (number (s .state i))) h e r h' e'
-        → Steps new word.layout aFutex s i o (futexCall (futex.wait x)) (word.waitOut x i (s .prio i) (number (s .state i))) h e r h' e'
+        → Steps word.layout aFutex s i o (futexCall (futex.wait x)) (word.waitOut x i (s .prio i) (number (s .state i))) h e r h' e'
     futex-wait-steps x =
-        by-thread new rtos-lawful futex-kind plain word.layout aFutex futexCall s g i o h e m (λ w k n. futex-part (s .wish) w (s .queue o) k n) (futex.wait x) r h' e'
+        by-thread rtos-lawful futex-kind plain word.layout aFutex futexCall s g i o h e m (λ w k n. futex-part (s .wish) w (s .queue o) k n) (futex.wait x) r h' e'
 
     module _ (run : s .state i ≡ running) where
-      pub val-set-steps : (x : ℕ) → Does word.layout (setOut x) h e r h' e' → Steps new word.layout aFutex s i o (futexCall (futex.set x)) (setOut x) h e r h' e'
+      pub val-set-steps : (x : ℕ) → Does word.layout (setOut x) h e r h' e' → Steps word.layout aFutex s i o (futexCall (futex.set x)) (setOut x) h e r h' e'
       val-set-steps x =
-          by-name new rtos-lawful futex-kind plain word.layout aFutex futexCall s g i o h e m (λ w k n. futex-part (s .wish) w (s .queue o) k n) (futex.set x) r h' e' 0 run refl tt
+          by-name rtos-lawful futex-kind plain word.layout aFutex futexCall s g i o h e m (λ w k n. futex-part (s .wish) w (s .queue o) k n) (futex.set x) r h' e' 0 run refl tt
 
       -- one or all
       pub wake-steps : (all : Bool) (room : ℕ) → length (s .queue o) ≤ room → Does word.layout (wakeOut all room) h e r h' e'
-          → Steps new word.layout aFutex s i o (futexCall (wakeCall all)) (wakeOut all room) h e r h' e'
+          → Steps word.layout aFutex s i o (futexCall (wakeCall all)) (wakeOut all room) h e r h' e'
       wake-steps true =
-          by-room new rtos-lawful futex-kind plain word.layout aFutex futexCall s g i o h e m (λ w k n. futex-part (s .wish) w (s .queue o) k n) futex.wakeAll r h' e' 0 run refl tt
+          by-room rtos-lawful futex-kind plain word.layout aFutex futexCall s g i o h e m (λ w k n. futex-part (s .wish) w (s .queue o) k n) futex.wakeAll r h' e' 0 run refl tt
       wake-steps false =
-          by-room new rtos-lawful futex-kind plain word.layout aFutex futexCall s g i o h e m (λ w k n. futex-part (s .wish) w (s .queue o) k n) futex.wakeOne r h' e' 0 run refl
+          by-room rtos-lawful futex-kind plain word.layout aFutex futexCall s g i o h e m (λ w k n. futex-part (s .wish) w (s .queue o) k n) futex.wakeOne r h' e' 0 run refl
           (unparked (any (map ident (s .queue o))) _ _ tt tt)
 
 abbrev others : Member
 others = mutexes ⊕ condvars ⊕ futexes
 
 -- nor does a release in the system
-release-unparked : (s : Sys rtos) (i o : ℕ) (n : Mutex) → Unparked (verdict new s i o (mutexCall mutex.release) (aMutex n))
+release-unparked : (s : Sys rtos) (i o : ℕ) (n : Mutex) → Unparked (verdict s i o (mutexCall mutex.release) (aMutex n))
 release-unparked s i o n =
     go (unlocks n i (map ident (s .queue o)) (deny edeadlk)) (unlocks-unparked n i (map ident (s .queue o)) (deny edeadlk) tt)
   where
@@ -192,7 +192,7 @@ module _ (s : Sys rtos) (g : Fine s) (i a b : ℕ) (off : a ≡ b → ⊥) (m d 
 
   -- between the two
   abbrev mid : Sys rtos
-  mid = called new s i a release .0
+  mid = called s i a release .0
 
   abbrev given : Out Mutex
   given = on lock.layout (releaseOut i p st) m d
@@ -203,17 +203,17 @@ module _ (s : Sys rtos) (g : Fine s) (i a b : ℕ) (off : a ≡ b → ⊥) (m d 
   abbrev n : Mutex
   n = lock.layout .num m
 
-  first-same : outcome new s i a release (aMutex n) ≡ wrapped aMutex (releaseOut i p st n (s .queue a))
+  first-same : outcome s i a release (aMutex n) ≡ wrapped aMutex (releaseOut i p st n (s .queue a))
   first-same = mutex-part (s .wish) (thread i p st) (s .queue a) mutex.release n
 
-  first-tells : called new s i a release .1 ≡ given .turn .code
-  first-tells = tells new rtos-lawful lock.layout aMutex s g i a release (releaseOut i p st) m d x first-same
+  first-tells : called s i a release .1 ≡ given .turn .code
+  first-tells = tells rtos-lawful lock.layout aMutex s g i a release (releaseOut i p st) m d x first-same
 
   fine-mid : Fine mid
-  fine-mid = called-fine new rtos-lawful s g i a release
+  fine-mid = called-fine rtos-lawful s g i a release
 
   y-mid : Is condition.layout (λ n. aCondvar) mid b h e
-  y-mid = is-off new s i a release b off condition.layout (λ n. aCondvar) h e y
+  y-mid = is-off s i a release b off condition.layout (λ n. aCondvar) h e y
 
   joined-none : joined .turn .woken ≡ []
   joined-none =
@@ -232,41 +232,41 @@ module _ (s : Sys rtos) (g : Fine s) (i a b : ℕ) (off : a ≡ b → ⊥) (m d 
         go : (w : ℤ) → callerCode p st ≡ w → s .state i ≡ running
         go (pos k) v = runs p (s .state i) k v
         go (negsuc k) v =
-            let o : outcome new s i a release (aMutex n) ≡ refused (negsuc k) (aMutex n) (s .queue a) = barred new s i a release (aMutex n) (g .formed a (aMutex n) (x .slot)) k v in
-            let t : called new s i a release .1 ≡ negsuc k = rw (x .slot) (ap (λ (u : Out (rtos .Num)). u .turn .code) o) in
+            let o : outcome s i a release (aMutex n) ≡ refused (negsuc k) (aMutex n) (s .queue a) = barred s i a release (aMutex n) (g .formed a (aMutex n) (x .slot)) k v in
+            let t : called s i a release .1 ≡ negsuc k = rw (x .slot) (ap (λ (u : Out (rtos .Num)). u .turn .code) o) in
             let l : pos c ≡ negsuc k = sym z ∙ sym first-tells ∙ t in
             absurd (let j : _≡_ {A = ℕ} 0 1 = cc in omega arith)
 
     state-mid : mid .state i ≡ s .state i
-    state-mid = still new s g i a release run (aMutex n) (x .slot) (release-unparked s i a n)
+    state-mid = still s g i a release run (aMutex n) (x .slot) (release-unparked s i a n)
 
-    second-same : outcome new mid i b await aCondvar ≡ wrapped (λ t. aCondvar) (condition.waitOut i p st tt (mid .queue b))
+    second-same : outcome mid i b await aCondvar ≡ wrapped (λ t. aCondvar) (condition.waitOut i p st tt (mid .queue b))
     second-same =
         condvar-part (mid .wish) (thread i (mid .prio i) (number (mid .state i))) (mid .queue b) condvar.wait tt
-        ∙ ap (λ (t : ℕ). wrapped (λ l. aCondvar) (condition.waitOut i t (number (mid .state i)) tt (mid .queue b))) (prio-kept new s i a release i)
+        ∙ ap (λ (t : ℕ). wrapped (λ l. aCondvar) (condition.waitOut i t (number (mid .state i)) tt (mid .queue b))) (prio-kept s i a release i)
         ∙ ap (λ (t : State). wrapped (λ l. aCondvar) (condition.waitOut i p (number t) tt (mid .queue b))) state-mid
 
-    second-tells : called new mid i b await .1 ≡ joined .turn .code
-    second-tells = tells new rtos-lawful condition.layout (λ t. aCondvar) mid fine-mid i b await (condition.waitOut i p st) h e y-mid second-same
+    second-tells : called mid i b await .1 ≡ joined .turn .code
+    second-tells = tells rtos-lawful condition.layout (λ t. aCondvar) mid fine-mid i b await (condition.waitOut i p st) h e y-mid second-same
 
-  both-tell : answers new s i a release b await ≡ agreed (given .turn .code) (joined .turn .code)
+  both-tell : answers s i a release b await ≡ agreed (given .turn .code) (joined .turn .code)
   both-tell = rw first-tells (go (given .turn .code) refl)
     where
-      go : (z : ℤ) → given .turn .code ≡ z → agreed z (called new mid i b await .1) ≡ agreed z (joined .turn .code)
+      go : (z : ℤ) → given .turn .code ≡ z → agreed z (called mid i b await .1) ≡ agreed z (joined .turn .code)
       go (pos c) z = ap (agreed (pos c)) (second-tells c z)
       go (negsuc c) z = refl
 
   pub wait-blocking-steps : (w : ℕ) (r : ℤ) (h' e' m' : List ℕ) (w' : ℕ) → Waited i p st h e m d w r h' e' m' w'
-      → Pairs new lock.layout aMutex condition.layout (λ n. aCondvar) s i a release b await r m' d h' e' (given .turn .woken)
+      → Pairs lock.layout aMutex condition.layout (λ n. aCondvar) s i a release b await r m' d h' e' (given .turn .woken)
   wait-blocking-steps w r h' e' m' w' t = go r refl
     where
-      said : r ≡ answers new s i a release b await
+      said : r ≡ answers s i a release b await
       said = t .code ∙ sym both-tell
 
-      go : (z : ℤ) → r ≡ z → Pairs new lock.layout aMutex condition.layout (λ n. aCondvar) s i a release b await r m' d h' e' (given .turn .woken)
+      go : (z : ℤ) → r ≡ z → Pairs lock.layout aMutex condition.layout (λ n. aCondvar) s i a release b await r m' d h' e' (given .turn .woken)
       go (negsuc c) z =
           let k : (h' ≡ h) × (e' ≡ e) × (m' ≡ m) × (w' ≡ w) = rw z at (t .neither) in
-          let l : answers new s i a release b await ≡ negsuc c = sym said ∙ z in
+          let l : answers s i a release b await ≡ negsuc c = sym said ∙ z in
           record {
             code = rw (ne-eqb a b off) (ap reply said);
             first = rw (ne-eqb a b off, l, k .2) x;
@@ -276,36 +276,36 @@ module _ (s : Sys rtos) (g : Fine s) (i a b : ℕ) (off : a ≡ b → ⊥) (m d 
       go (pos c) z = by (given .turn .code) (joined .turn .code) refl refl (sym (t .code) ∙ z)
         where
           by : (u v : ℤ) → given .turn .code ≡ u → joined .turn .code ≡ v → agreed u v ≡ pos c
-              → Pairs new lock.layout aMutex condition.layout (λ n. aCondvar) s i a release b await r m' d h' e' (given .turn .woken)
+              → Pairs lock.layout aMutex condition.layout (λ n. aCondvar) s i a release b await r m' d h' e' (given .turn .woken)
           by (negsuc u) v f l k = absurd (let j : _≡_ {A = ℕ} 0 1 = cc in omega arith)
           by (pos u) (negsuc v) f l k = absurd (let j : _≡_ {A = ℕ} 0 1 = cc in omega arith)
           by (pos u) (pos v) f l k =
               let does = rw z at (t .both) in
-              let told : answers new s i a release b await ≡ pos c = sym said ∙ z in
+              let told : answers s i a release b await ≡ pos c = sym said ∙ z in
               let one = release-steps s g i a m d (pos c) m' d x (does .1) in
-              let two = steps new rtos-lawful condition.layout (λ t. aCondvar) mid fine-mid i b await (condition.waitOut i p st) h e y-mid (second-same u f) waits h' e' (does .0) in
+              let two = steps rtos-lawful condition.layout (λ t. aCondvar) mid fine-mid i b await (condition.waitOut i p st) h e y-mid (second-same u f) waits h' e' (does .0) in
               record {
                 code = rw (ne-eqb a b off) (ap reply said);
-                first = rw (ne-eqb a b off, told) (is-off new mid i b await a (λ o. off (sym o)) lock.layout aMutex m' d (one .is));
+                first = rw (ne-eqb a b off, told) (is-off mid i b await a (λ o. off (sym o)) lock.layout aMutex m' d (one .is));
                 second = rw (ne-eqb a b off, told) (two .is);
                 wakes =
                     rw (z, ne-eqb a b off, told)
-                    (wakes-on s mid (called new mid i b await .0) i (given .turn .woken) (state-mid u f ∙ run u f) (one .wakes)
-                    (subst (λ (l : List ℕ). HandsOut mid i (called new mid i b await .0) l) joined-none (two .wakes)));
+                    (wakes-on s mid (called mid i b await .0) i (given .turn .woken) (state-mid u f ∙ run u f) (one .wakes)
+                    (subst (λ (l : List ℕ). HandsOut mid i (called mid i b await .0) l) joined-none (two .wakes)));
               }
 
 -- init, in a slot that is vacant and in memory that is long enough; its numbers have 32 bits
 module _ (s : Sys rtos) (g : Fine s) (o : ℕ) (h e : List ℕ) (r : ℤ) (h' : List ℕ) (v : s .slot o ≡ vacant) (l : maxWaiters ≤ length e) where
   pub sem-init-turns : (count limit : ℕ) → 3 ≤ length h → limit < 4294967296 → semaphore.Starts count limit h r h'
-      → Turns new semaphore.layout aSem s o (create o (aSem (record { count = count; limit = limit }))) r h' e
+      → Turns semaphore.layout aSem s o (create o (aSem (record { count = count; limit = limit }))) r h' e
   sem-init-turns count limit w b =
-      makes new sem-kind semaphore.layout aSem s g o (record { count = count; limit = limit }) h e r h' v w l (rw (lt-ltb limit 4294967296 b))
+      makes sem-kind semaphore.layout aSem s g o (record { count = count; limit = limit }) h e r h' v w l (rw (lt-ltb limit 4294967296 b))
 
-  pub mutex-init-turns : 4 ≤ length h → lock.Starts h r h' → Turns new lock.layout aMutex s o (create o (aMutex mutex.free)) r h' e
-  mutex-init-turns w = makes new mutex-kind lock.layout aMutex s g o mutex.free h e r h' v w l refl
+  pub mutex-init-turns : 4 ≤ length h → lock.Starts h r h' → Turns lock.layout aMutex s o (create o (aMutex mutex.free)) r h' e
+  mutex-init-turns w = makes mutex-kind lock.layout aMutex s g o mutex.free h e r h' v w l refl
 
-  pub condvar-init-turns : 1 ≤ length h → condition.Starts h r h' → Turns new condition.layout (λ n. aCondvar) s o (create o aCondvar) r h' e
-  condvar-init-turns w = makes new condvar-kind condition.layout (λ n. aCondvar) s g o tt h e r h' v w l refl
+  pub condvar-init-turns : 1 ≤ length h → condition.Starts h r h' → Turns condition.layout (λ n. aCondvar) s o (create o aCondvar) r h' e
+  condvar-init-turns w = makes condvar-kind condition.layout (λ n. aCondvar) s g o tt h e r h' v w l refl
 
-  pub futex-init-turns : (val : ℕ) → 2 ≤ length h → val < 4294967296 → word.Starts val h r h' → Turns new word.layout aFutex s o (create o (aFutex (record { val = val }))) r h' e
-  futex-init-turns val w b = makes new futex-kind word.layout aFutex s g o (record { val = val }) h e r h' v w l (rw (lt-ltb val 4294967296 b))
+  pub futex-init-turns : (val : ℕ) → 2 ≤ length h → val < 4294967296 → word.Starts val h r h' → Turns word.layout aFutex s o (create o (aFutex (record { val = val }))) r h' e
+  futex-init-turns val w b = makes futex-kind word.layout aFutex s g o (record { val = val }) h e r h' v w l (rw (lt-ltb val 4294967296 b))

@@ -72,42 +72,42 @@ room-wide n e r = go (leb n maxWaiters) r
     go false z = clash (sym z)
 
 -- an operation whose outcome is that of the call k is the step of the system
-module _ {K : Kind} (new : K .Num → Bool) (law : Lawful K) {N : Type 0} (L : Layout N) (num : N → K .Num) (s : Sys K) (g : Fine s) (i o : ℕ) (k : K .Call)
-    (f : N → List ℕ → Out N) (h e : List ℕ) (m : Is L num s o h e) (same : outcome new s i o k (num (L .num h)) ≡ wrapped num (f (L .num h) (s .queue o))) where
+module _ {K : Kind} (law : Lawful K) {N : Type 0} (L : Layout N) (num : N → K .Num) (s : Sys K) (g : Fine s) (i o : ℕ) (k : K .Call)
+    (f : N → List ℕ → Out N) (h e : List ℕ) (m : Is L num s o h e) (same : outcome s i o k (num (L .num h)) ≡ wrapped num (f (L .num h) (s .queue o))) where
   abbrev u : Out N
   u = f (L .num h) (s .queue o)
 
   here : on L f h e ≡ u
   here = rw (m .queue) (is-on L f h e (record { words = m .words; room = m .room }))
 
-  few : length (called new s i o k .0 .queue o) ≤ maxWaiters
-  few = called-fine new law s g i o k .queues o .short
+  few : length (called s i o k .0 .queue o) ≤ maxWaiters
+  few = called-fine law s g i o k .queues o .short
 
-  answered : called new s i o k .1 ≡ u .turn .code
+  answered : called s i o k .1 ≡ u .turn .code
   answered = rw (m .slot) (ap (λ (x : Out (K .Num)). x .turn .code) same)
 
   -- its answer alone
-  pub tells : called new s i o k .1 ≡ on L f h e .turn .code
+  pub tells : called s i o k .1 ≡ on L f h e .turn .code
   tells = answered ∙ sym (ap (λ (y : Out N). y .turn .code) here)
 
-  handed-out : on L f h e .turn .woken ≡ outcome new s i o k (num (L .num h)) .turn .woken
+  handed-out : on L f h e .turn .woken ≡ outcome s i o k (num (L .num h)) .turn .woken
   handed-out = ap (λ (y : Out N). y .turn .woken) here ∙ sym (ap (λ (y : Out (K .Num)). y .turn .woken) same)
 
-  done : (c : ℕ) → u .turn .code ≡ pos c → called new s i o k .0 ≡ serve new s i o (verdict new s i o k (num (L .num h))) (wrapped num u)
+  done : (c : ℕ) → u .turn .code ≡ pos c → called s i o k .0 ≡ serve s i o (verdict s i o k (num (L .num h))) (wrapped num u)
   done c z = rw (m .slot, same, z)
 
-  undone : (c : ℕ) → u .turn .code ≡ negsuc c → called new s i o k .0 ≡ s
+  undone : (c : ℕ) → u .turn .code ≡ negsuc c → called s i o k .0 ≡ s
   undone c z = rw (m .slot, same, z)
 
   module _ (r : ℤ) (h' e' : List ℕ) (d : Does L f h e r h' e') where
-    after : (z : ℤ) → u .turn .code ≡ z → Is L num (called new s i o k .0) o h' e'
+    after : (z : ℤ) → u .turn .code ≡ z → Is L num (called s i o k .0) o h' e'
     after (negsuc c) z =
         let x : r ≡ negsuc c = d .code ∙ ap (λ (y : Out N). y .turn .code) here ∙ z in
         let p : (h' ≡ h) × (e' ≡ e) = rw x at (d .kept) in
         rw (undone c z, p .0, p .1) m
     after (pos c) z =
         let x : waiting e' (getD h' (L .len) 0) ≡ u .turn .queue = d .queue ∙ ap (λ (y : Out N). y .turn .queue) here in
-        let y : called new s i o k .0 .queue o ≡ u .turn .queue = rw (done c z, eq-eqb o o refl) in
+        let y : called s i o k .0 .queue o ≡ u .turn .queue = rw (done c z, eq-eqb o o refl) in
         let l : getD h' (L .len) 0 ≤ maxWaiters = omega (arith, few, ap length y, ap length x, back-length e' (getD h' (L .len) 0)) in
         record {
           words = omega (arith, m .words, d .long .0);
@@ -116,15 +116,15 @@ module _ {K : Kind} (new : K .Num → Bool) (law : Lawful K) {N : Type 0} (L : L
           queue = y ∙ sym x;
         }
 
-    pub steps : Steps new L num s i o k f h e r h' e'
+    pub steps : Steps L num s i o k f h e r h' e'
     steps =
         record {
           code = d .code ∙ ap (λ (y : Out N). y .turn .code) here ∙ sym answered;
           is = after (u .turn .code) refl;
           woken = handed-out;
           wakes =
-              let x : r ≡ outcome new s i o k (num (L .num h)) .turn .code = d .code ∙ ap (λ (y : Out N). y .turn .code) here ∙ sym (ap (λ (y : Out (K .Num)). y .turn .code) same) in
-              rw (x, handed-out) (call-wakes new s g i o k (num (L .num h)) (m .slot));
+              let x : r ≡ outcome s i o k (num (L .num h)) .turn .code = d .code ∙ ap (λ (y : Out N). y .turn .code) here ∙ sym (ap (λ (y : Out (K .Num)). y .turn .code) same) in
+              rw (x, handed-out) (call-wakes s g i o k (num (L .num h)) (m .slot));
         }
 
 -- nobody is to wait
@@ -184,7 +184,7 @@ runs-valid s g i run =
     (g .known i (λ a. let v : running ≡ absent = sym run ∙ a in absurd (let y : _≡_ {A = ℕ} 0 1 = cc in omega arith)) .1)
 
 -- the objects of the kind P in a system of the kind K: num and ask take its numbers and its calls there
-module _ {K : Kind} (new : K .Num → Bool) (law : Lawful K) (P : Kind) (v : ℕ → P .Wish) (L : Layout (P .Num)) (num : P .Num → K .Num) (ask : P .Call → K .Call)
+module _ {K : Kind} (law : Lawful K) (P : Kind) (v : ℕ → P .Wish) (L : Layout (P .Num)) (num : P .Num → K .Num) (ask : P .Call → K .Call)
     (s : Sys K) (g : Fine s) (i o : ℕ) (h e : List ℕ) (m : Is L num s o h e)
     (part : (w : Caller) (k : P .Call) (n : P .Num) → call K (s .wish) w (ask k) (num n) (s .queue o) ≡ wrapped num (call P v w k n (s .queue o)))
     (k : P .Call) (r : ℤ) (h' e' : List ℕ) where
@@ -196,68 +196,68 @@ module _ {K : Kind} (new : K .Num → Bool) (law : Lawful K) (P : Kind) (v : ℕ
 
   -- the function is told the thread's numbers
   pub by-thread : Does L (call P v (thread i (s .prio i) (number (s .state i))) k) h e r h' e'
-      → Steps new L num s i o (ask k) (call P v (thread i (s .prio i) (number (s .state i))) k) h e r h' e'
+      → Steps L num s i o (ask k) (call P v (thread i (s .prio i) (number (s .state i))) k) h e r h' e'
   by-thread d =
-      steps new law L num s g i o (ask k) (call P v (thread i (s .prio i) (number (s .state i))) k) h e m (part (thread i (s .prio i) (number (s .state i))) k n) r h' e' d
+      steps law L num s g i o (ask k) (call P v (thread i (s .prio i) (number (s .state i))) k) h e m (part (thread i (s .prio i) (number (s .state i))) k n) r h' e' d
 
   -- it is told a name at most, and a thread that runs calls it
   module _ (j : ℕ) (run : s .state i ≡ running) (same : P .decide n v (map ident q) i k ≡ P .decide n v (map ident q) j k)
       (stays : Unparked (P .decide n v (map ident q) j k)) where
-    as-named : outcome new s i o (ask k) (num n) ≡ wrapped num (call P v (named j) k n q)
+    as-named : outcome s i o (ask k) (num n) ≡ wrapped num (call P v (named j) k n q)
     as-named =
         rw run (part (thread i (s .prio i) 1) k n ∙ ap (wrapped num) (call-named P v i (s .prio i) j k n q (runs-valid s g i run) same stays))
 
-    pub by-name : Does L (call P v (named j) k) h e r h' e' → Steps new L num s i o (ask k) (call P v (named j) k) h e r h' e'
-    by-name d = steps new law L num s g i o (ask k) (call P v (named j) k) h e m as-named r h' e' d
+    pub by-name : Does L (call P v (named j) k) h e r h' e' → Steps L num s i o (ask k) (call P v (named j) k) h e r h' e'
+    by-name d = steps law L num s g i o (ask k) (call P v (named j) k) h e m as-named r h' e' d
 
     -- and there is room to hand out all that wait
     pub by-room : (room : ℕ) → length q ≤ room → Does L (handed room (call P v (named j) k)) h e r h' e'
-        → Steps new L num s i o (ask k) (handed room (call P v (named j) k)) h e r h' e'
+        → Steps L num s i o (ask k) (handed room (call P v (named j) k)) h e r h' e'
     by-room room l d =
         let x : leb (length (call P v (named j) k n q .turn .woken)) room ≡ true = le-leb (length (call P v (named j) k n q .turn .woken)) room (omega (arith, l, call-length P v j k n q)) in
-        steps new law L num s g i o (ask k) (handed room (call P v (named j) k)) h e m (as-named ∙ rw x refl) r h' e' d
+        steps law L num s g i o (ask k) (handed room (call P v (named j) k)) h e m (as-named ∙ rw x refl) r h' e' d
 
 -- another object, and the priorities, stay
-module _ {K : Kind} (new : K .Num → Bool) (s : Sys K) (i o : ℕ) (k : K .Call) where
-  pub prio-kept : (t : ℕ) → called new s i o k .0 .prio t ≡ s .prio t
+module _ {K : Kind} (s : Sys K) (i o : ℕ) (k : K .Call) where
+  pub prio-kept : (t : ℕ) → called s i o k .0 .prio t ≡ s .prio t
   prio-kept t = go (s .slot o)
     where
-      go : (y : Slot (K .Num)) → visited new y s i o k .0 .prio t ≡ s .prio t
+      go : (y : Slot (K .Num)) → visited y s i o k .0 .prio t ≡ s .prio t
       go vacant = refl
-      go (object n) = by (outcome new s i o k n .turn .code)
+      go (object n) = by (outcome s i o k n .turn .code)
         where
-          by : (z : ℤ) → unless z s (serve new s i o (verdict new s i o k n) (outcome new s i o k n)) .prio t ≡ s .prio t
+          by : (z : ℤ) → unless z s (serve s i o (verdict s i o k n) (outcome s i o k n)) .prio t ≡ s .prio t
           by (pos c) = refl
           by (negsuc c) = refl
 
   module _ (x : ℕ) (off : o ≡ x → ⊥) where
-    slot-kept : called new s i o k .0 .slot x ≡ s .slot x
+    slot-kept : called s i o k .0 .slot x ≡ s .slot x
     slot-kept = go (s .slot o)
       where
-        go : (y : Slot (K .Num)) → visited new y s i o k .0 .slot x ≡ s .slot x
+        go : (y : Slot (K .Num)) → visited y s i o k .0 .slot x ≡ s .slot x
         go vacant = refl
-        go (object n) = by (outcome new s i o k n .turn .code)
+        go (object n) = by (outcome s i o k n .turn .code)
           where
-            by : (z : ℤ) → unless z s (serve new s i o (verdict new s i o k n) (outcome new s i o k n)) .slot x ≡ s .slot x
+            by : (z : ℤ) → unless z s (serve s i o (verdict s i o k n) (outcome s i o k n)) .slot x ≡ s .slot x
             by (pos c) = rw (ne-eqb o x off)
             by (negsuc c) = refl
 
-    queue-kept : called new s i o k .0 .queue x ≡ s .queue x
+    queue-kept : called s i o k .0 .queue x ≡ s .queue x
     queue-kept = go (s .slot o)
       where
-        go : (y : Slot (K .Num)) → visited new y s i o k .0 .queue x ≡ s .queue x
+        go : (y : Slot (K .Num)) → visited y s i o k .0 .queue x ≡ s .queue x
         go vacant = refl
-        go (object n) = by (outcome new s i o k n .turn .code)
+        go (object n) = by (outcome s i o k n .turn .code)
           where
-            by : (z : ℤ) → unless z s (serve new s i o (verdict new s i o k n) (outcome new s i o k n)) .queue x ≡ s .queue x
+            by : (z : ℤ) → unless z s (serve s i o (verdict s i o k n) (outcome s i o k n)) .queue x ≡ s .queue x
             by (pos c) = rw (ne-eqb o x off)
             by (negsuc c) = refl
 
-    pub is-off : {N : Type 0} (L : Layout N) (num : N → K .Num) (h e : List ℕ) → Is L num s x h e → Is L num (called new s i o k .0) x h e
+    pub is-off : {N : Type 0} (L : Layout N) (num : N → K .Num) (h e : List ℕ) → Is L num s x h e → Is L num (called s i o k .0) x h e
     is-off L num h e m = record { words = m .words; room = m .room; slot = slot-kept ∙ m .slot; queue = queue-kept ∙ m .queue }
 
 -- a thread that runs, and need not wait, still runs
-module _ {K : Kind} (new : K .Num → Bool) (s : Sys K) (g : Fine s) (i o : ℕ) (k : K .Call) (run : s .state i ≡ running) where
+module _ {K : Kind} (s : Sys K) (g : Fine s) (i o : ℕ) (k : K .Call) (run : s .state i ≡ running) where
   states-same : (d : Verdict (K .Num) (K .Wish)) → Unparked d → states (deed d) i o (s .queue o) (s .state) i ≡ s .state i
   states-same (deny r) x = refl
   states-same (allow n keep r) x = refl
@@ -266,20 +266,20 @@ module _ {K : Kind} (new : K .Num → Bool) (s : Sys K) (g : Fine s) (i o : ℕ)
       let z : times i (s .queue o) ≡ 0 = g .placed o i ∙ rw run refl in
       rw (not-held i (gone ident p (s .queue o)) (omega (arith, z, times-pick i p (s .queue o))))
 
-  pub still : (n : K .Num) → s .slot o ≡ object n → Unparked (verdict new s i o k n) → called new s i o k .0 .state i ≡ s .state i
-  still n h x = rw h (by (outcome new s i o k n .turn .code))
+  pub still : (n : K .Num) → s .slot o ≡ object n → Unparked (verdict s i o k n) → called s i o k .0 .state i ≡ s .state i
+  still n h x = rw h (by (outcome s i o k n .turn .code))
     where
-      by : (z : ℤ) → unless z s (serve new s i o (verdict new s i o k n) (outcome new s i o k n)) .state i ≡ s .state i
-      by (pos c) = states-same (verdict new s i o k n) x
+      by : (z : ℤ) → unless z s (serve s i o (verdict s i o k n) (outcome s i o k n)) .state i ≡ s .state i
+      by (pos c) = states-same (verdict s i o k n) x
       by (negsuc c) = refl
 
 -- a new object, in a slot that is vacant and in memory that is long enough
-pub makes : {K : Kind} (new : K .Num → Bool) (P : Kind) (L : Layout (P .Num)) (num : P .Num → K .Num) (s : Sys K) → Fine s → (o : ℕ) (n : P .Num) (h e : List ℕ) (r : ℤ) (h' : List ℕ)
-    → s .slot o ≡ vacant → L .words ≤ length h → maxWaiters ≤ length e → new (num n) ≡ P .formed n false → Started P L n h r h'
-    → Turns new L num s o (create o (num n)) r h' e
-makes {K} new P L num s g o n h e r h' v w l same d = go (P .formed n false) refl
+pub makes : {K : Kind} (P : Kind) (L : Layout (P .Num)) (num : P .Num → K .Num) (s : Sys K) → Fine s → (o : ℕ) (n : P .Num) (h e : List ℕ) (r : ℤ) (h' : List ℕ)
+    → s .slot o ≡ vacant → L .words ≤ length h → maxWaiters ≤ length e → K .new (num n) ≡ P .formed n false → Started P L n h r h'
+    → Turns L num s o (create o (num n)) r h' e
+makes {K} P L num s g o n h e r h' v w l same d = go (P .formed n false) refl
   where
-    go : (b : Bool) → P .formed n false ≡ b → Turns new L num s o (create o (num n)) r h' e
+    go : (b : Bool) → P .formed n false ≡ b → Turns L num s o (create o (num n)) r h' e
     go false f =
         let c : r ≡ einval = rw (le-leb (L .words) (length h) w, f) at (d .code) in
         record { code = rw (c, v, same, f) refl; is = rw c tt }
@@ -300,10 +300,10 @@ makes {K} new P L num s g o n h e r h' v w l same d = go (P .formed n false) ref
         }
 
 -- the time of the thread i, which waits on the object o, is over: it is removed from the queue in memory
-pub expires : {K : Kind} (new : K .Num → Bool) {N : Type 0} (L : Layout N) (num : N → K .Num) (s : Sys K) → Fine s → (i o : ℕ) (h e : List ℕ) → Is L num s o h e
+pub expires : {K : Kind} {N : Type 0} (L : Layout N) (num : N → K .Num) (s : Sys K) → Fine s → (i o : ℕ) (h e : List ℕ) → Is L num s o h e
     → s .state i ≡ system.waiting o → (r : ℤ) (k : ℕ) (h' e' : List ℕ) → post.Does (remove i) (getD h (L .len) 0) e r k e' → Header L h (L .num h) k h'
-    → Turns new L num s o (expire i) r h' e'
-expires {K} new L num s g i o h e m w r k h' e' d x =
+    → Turns L num s o (expire i) r h' e'
+expires {K} L num s g i o h e m w r k h' e' d x =
     let here : at (remove i) (getD h (L .len) 0) e ≡ remove i (s .queue o) = rw (m .room, m .queue) in
     let one : times i (s .queue o) ≡ 1 = g .placed o i ∙ rw (w, eq-eqb o o refl) in
     let in-it : holds i (s .queue o) ≡ true = go (holds i (s .queue o)) refl one in

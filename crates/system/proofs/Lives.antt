@@ -18,7 +18,7 @@ use Rattle.kind.specs.Verdict.{gone, keep, park, wake, Verdict, deny, allow}
 use Rattle.kind.specs.Kind.{Kind, Lawful, Right}
 use Rattle.kind.specs.Object.{thread, carried}
 use Rattle.kind.proofs.Picks.{any-map, gone-map}
-use Rattle.system.specs.System.{State, absent, running, ready, waiting, number, Slot, vacant, object, Sys, Op, invoke, both, dispatch, yield, expire, spawn, create, deed, wishes, unless, serve, outcome, verdict, visited, called, dispatched, yielded, expired, spawned, created, free, gone-by, answers, Answer, done, denied, reply, step}
+use Rattle.system.specs.System.{State, absent, running, ready, waiting, number, Slot, vacant, object, Sys, Op, invoke, both, dispatch, yield, expire, spawn, create, deed, wishes, unless, serve, outcome, verdict, visited, called, dispatched, yielded, expired, spawned, created, free, gone-by, answers, Answer, done, denied, reply, step, Reply, refuse, paired}
 use Rattle.system.specs.Rules.{Fine}
 use Rattle.system.specs.Life.{Calls, direct, former, latter, Life, stays, began, woken, late, back, aside, born, Refuses}
 use Rattle.system.proofs.Times.{held, times-pick, on-is}
@@ -27,55 +27,55 @@ use Rattle.system.proofs.Calls.{runs, barred, granted, called-fine}
 never : {A : Type 0} {x y : ℤ} → done x ≡ denied y → A
 never h = absurd (let z : _≡_ {A = ℕ} 0 1 = cc in omega arith)
 
-module _ {K : Kind} (new : K .Num → Bool) (s : Sys K) where
+module _ {K : Kind} (s : Sys K) where
   undone : (z c : ℤ) (u : Sys K) → reply z ≡ denied c → unless z s u ≡ s
   undone (pos n) c u h = never h
   undone (negsuc n) c u h = refl
 
   -- (6)
-  pub refuses : (x : Op K) → Refuses new s x
+  pub refuses : (x : Op K) → Refuses s x
   refuses (invoke i o k) c = go (s .slot o)
     where
-      go : (y : Slot (K .Num)) → reply (visited new y s i o k .1) ≡ denied c → visited new y s i o k .0 ≡ s
+      go : (y : Slot (K .Num)) → reply (visited y s i o k .1) ≡ denied c → visited y s i o k .0 ≡ s
       go vacant h = refl
-      go (object n) h = undone (outcome new s i o k n .turn .code) c (serve new s i o (verdict new s i o k n) (outcome new s i o k n)) h
+      go (object n) h = undone (outcome s i o k n .turn .code) c (serve s i o (verdict s i o k n) (outcome s i o k n)) h
   refuses (both i a j b k) c = go (eqb a b)
     where
-      go : (y : Bool) → cond {A = Sys K × Answer} y (s, denied einval) (unless (answers new s i a j b k) s (called new (called new s i a j .0) i b k .0), reply (answers new s i a j b k)) .1 ≡ denied c
-          → cond {A = Sys K × Answer} y (s, denied einval) (unless (answers new s i a j b k) s (called new (called new s i a j .0) i b k .0), reply (answers new s i a j b k)) .0 ≡ s
+      go : (y : Bool) → cond {A = Reply K} y (refuse s einval) (paired s i a j b k) .1 ≡ denied c
+          → cond {A = Reply K} y (refuse s einval) (paired s i a j b k) .0 ≡ s
       go true h = refl
-      go false h = undone (answers new s i a j b k) c (called new (called new s i a j .0) i b k .0) h
+      go false h = undone (answers s i a j b k) c (called (called s i a j .0) i b k .0) h
   refuses (dispatch i) c = go (s .state i)
     where
-      go : (y : State) → dispatched new y s i .1 ≡ denied c → dispatched new y s i .0 ≡ s
+      go : (y : State) → dispatched y s i .1 ≡ denied c → dispatched y s i .0 ≡ s
       go absent h = refl
       go running h = refl
       go (ready r) h = never h
       go (waiting o) h = refl
   refuses (yield i) c = go (s .state i)
     where
-      go : (y : State) → yielded new y s i .1 ≡ denied c → yielded new y s i .0 ≡ s
+      go : (y : State) → yielded y s i .1 ≡ denied c → yielded y s i .0 ≡ s
       go absent h = refl
       go running h = never h
       go (ready r) h = refl
       go (waiting o) h = refl
   refuses (expire i) c = go (s .state i)
     where
-      go : (y : State) → expired new y s i .1 ≡ denied c → expired new y s i .0 ≡ s
+      go : (y : State) → expired y s i .1 ≡ denied c → expired y s i .0 ≡ s
       go absent h = refl
       go running h = refl
       go (ready r) h = refl
       go (waiting o) h = never h
   refuses (spawn i p) c = go (gone-by (s .state i)) (ltb i 4294967296) (valid p) refl refl refl
     where
-      go : (a b d : Bool) → gone-by (s .state i) ≡ a → ltb i 4294967296 ≡ b → valid p ≡ d → spawned new s i p .1 ≡ denied c → spawned new s i p .0 ≡ s
+      go : (a b d : Bool) → gone-by (s .state i) ≡ a → ltb i 4294967296 ≡ b → valid p ≡ d → spawned s i p .1 ≡ denied c → spawned s i p .0 ≡ s
       go true true true x y z h = never (rw (x, y, z) at h)
       go true true false x y z h = rw (x, y, z)
       go true false d x y z h = rw (x, y)
       go false b d x y z h = rw x
-  refuses (create o n) c = go (free (s .slot o)) (new n) refl refl
+  refuses (create o n) c = go (free (s .slot o)) (K .new n) refl refl
     where
-      go : (a b : Bool) → free (s .slot o) ≡ a → new n ≡ b → created new s o n .1 ≡ denied c → created new s o n .0 ≡ s
+      go : (a b : Bool) → free (s .slot o) ≡ a → K .new n ≡ b → created s o n .1 ≡ denied c → created s o n .0 ≡ s
       go true true x y h = never (rw (x, y) at h)
       go true false x y h = rw (x, y)
       go false b x y h = rw x
@@ -95,12 +95,12 @@ owed P t (x ∷ q) h a = go (eqb (ident x) t) refl h (λ z. owed P t q z (a .1))
     go true e z ih = rw (sym (eqb-true (ident x) t e)) (a .0)
     go false e z ih = ih z
 
-module _ {K : Kind} (new : K .Num → Bool) (law : Lawful K) (s : Sys K) (g : Fine s) (i o : ℕ) (k : K .Call) (n : K .Num) (h : s .slot o ≡ object n) (t : ℕ) where
+module _ {K : Kind} (law : Lawful K) (s : Sys K) (g : Fine s) (i o : ℕ) (k : K .Call) (n : K .Num) (h : s .slot o ≡ object n) (t : ℕ) where
   abbrev q : List ℕ
   q = s .queue o
 
   by-verdict : (d : Verdict (K .Num) (K .Wish)) → s .state i ≡ running → Right K (s .wish) (map ident q) k d
-      → Does K (s .wish) i o k t (s .state t) (unless (carried (thread i (s .prio i) 1) d n q .turn .code) s (serve new s i o d (carried (thread i (s .prio i) 1) d n q)) .state t)
+      → Does K (s .wish) i o k t (s .state t) (unless (carried (thread i (s .prio i) 1) d n q .turn .code) s (serve s i o d (carried (thread i (s .prio i) 1) d n q)) .state t)
   by-verdict (deny (negsuc c)) r a = nothing refl
   by-verdict (deny (pos c)) r a = nothing refl
   by-verdict (allow m keep (negsuc c)) r a = nothing refl
@@ -121,28 +121,28 @@ module _ {K : Kind} (new : K .Num → Bool) (law : Lawful K) (s : Sys K) (g : Fi
       joins false e = nothing refl
 
       go : (y z : Bool) → holds (ident (entry (s .prio i) i)) q ≡ y → ltb (length q) maxWaiters ≡ z
-          → Does K (s .wish) i o k t (s .state t) (unless (carried (thread i (s .prio i) 1) (allow m (park x) c) n q .turn .code) s (serve new s i o (allow m (park x) c) (carried (thread i (s .prio i) 1) (allow m (park x) c) n q)) .state t)
+          → Does K (s .wish) i o k t (s .state t) (unless (carried (thread i (s .prio i) 1) (allow m (park x) c) n q .turn .code) s (serve s i o (allow m (park x) c) (carried (thread i (s .prio i) 1) (allow m (park x) c) n q)) .state t)
       go true z u v = rw u (nothing refl)
       go false true u v = rw (u, v) (joins (eqb i t) refl)
       go false false u v = rw (u, v) (nothing refl)
 
-called-does : {K : Kind} (new : K .Num → Bool) → Lawful K → (s : Sys K) → Fine s → (i o : ℕ) (k : K .Call) (t : ℕ) → Does K (s .wish) i o k t (s .state t) (called new s i o k .0 .state t)
-called-does {K} new law s g i o k t = go (s .slot o) refl
+called-does : {K : Kind} → Lawful K → (s : Sys K) → Fine s → (i o : ℕ) (k : K .Call) (t : ℕ) → Does K (s .wish) i o k t (s .state t) (called s i o k .0 .state t)
+called-does {K} law s g i o k t = go (s .slot o) refl
   where
-    go : (x : Slot (K .Num)) → s .slot o ≡ x → Does K (s .wish) i o k t (s .state t) (visited new x s i o k .0 .state t)
+    go : (x : Slot (K .Num)) → s .slot o ≡ x → Does K (s .wish) i o k t (s .state t) (visited x s i o k .0 .state t)
     go vacant h = nothing refl
     go (object n) h = by (callerCode (s .prio i) (number (s .state i))) refl
       where
-        by : (z : ℤ) → callerCode (s .prio i) (number (s .state i)) ≡ z → Does K (s .wish) i o k t (s .state t) (visited new (object n) s i o k .0 .state t)
-        by (negsuc c) z = rw (barred new s i o k n (g .formed o n h) c z) (nothing refl)
+        by : (z : ℤ) → callerCode (s .prio i) (number (s .state i)) ≡ z → Does K (s .wish) i o k t (s .state t) (visited (object n) s i o k .0 .state t)
+        by (negsuc c) z = rw (barred s i o k n (g .formed o n h) c z) (nothing refl)
         by (pos c) z =
-            rw (granted new s i o k n (g .formed o n h) c z)
-            (by-verdict new law s g i o k n h t (verdict new s i o k n) (runs (s .prio i) (s .state i) c z)
+            rw (granted s i o k n (g .formed o n h) c z)
+            (by-verdict law s g i o k n h t (verdict s i o k n) (runs (s .prio i) (s .state i) c z)
             (law .right n (s .wish) (map ident (s .queue o)) i k (rw (any-map ident (s .queue o)) (g .formed o n h)) (g .kept o n h)))
 
 -- a call changes no wish but its caller's
-called-wish : {K : Kind} (new : K .Num → Bool) (s : Sys K) (i o : ℕ) (k : K .Call) (t : ℕ) → (t ≡ i → ⊥) → called new s i o k .0 .wish t ≡ s .wish t
-called-wish {K} new s i o k t e = go (s .slot o)
+called-wish : {K : Kind} (s : Sys K) (i o : ℕ) (k : K .Call) (t : ℕ) → (t ≡ i → ⊥) → called s i o k .0 .wish t ≡ s .wish t
+called-wish {K} s i o k t e = go (s .slot o)
   where
     kept : (d : Verdict (K .Num) (K .Wish)) → wishes (deed d) i (s .wish) t ≡ s .wish t
     kept (deny r) = refl
@@ -154,9 +154,9 @@ called-wish {K} new s i o k t e = go (s .slot o)
     either (pos c) u w = w
     either (negsuc c) u w = refl
 
-    go : (x : Slot (K .Num)) → visited new x s i o k .0 .wish t ≡ s .wish t
+    go : (x : Slot (K .Num)) → visited x s i o k .0 .wish t ≡ s .wish t
     go vacant = refl
-    go (object n) = either (outcome new s i o k n .turn .code) (serve new s i o (verdict new s i o k n) (outcome new s i o k n)) (kept (verdict new s i o k n))
+    go (object n) = either (outcome s i o k n .turn .code) (serve s i o (verdict s i o k n) (outcome s i o k n)) (kept (verdict s i o k n))
 
 module _ {K : Kind} (v : ℕ → K .Wish) (x : Op K) (a : Answer) (i t : ℕ) where
   -- of one call
@@ -185,31 +185,31 @@ module _ {K : Kind} (v : ℕ → K .Wish) (x : Op K) (a : Answer) (i t : ℕ) wh
   together v' same c d (wakes r n b e w) (wakes r' n' b' e' w') = crossed e b'
 
 -- (4)
-module _ {K : Kind} (new : K .Num → Bool) (law : Lawful K) (s : Sys K) (g : Fine s) (t : ℕ) where
-  pub lives : (x : Op K) → Life K (s .wish) x (step new s x .1) t (s .state t) (step new s x .0 .state t)
-  lives (invoke i o k) = alone (s .wish) (invoke i o k) (reply (called new s i o k .1)) i t direct (called-does new law s g i o k t)
+module _ {K : Kind} (law : Lawful K) (s : Sys K) (g : Fine s) (t : ℕ) where
+  pub lives : (x : Op K) → Life K (s .wish) x (step s x .1) t (s .state t) (step s x .0 .state t)
+  lives (invoke i o k) = alone (s .wish) (invoke i o k) (reply (called s i o k .1)) i t direct (called-does law s g i o k t)
   lives (both i a j b k) = go (eqb a b)
     where
       u : Sys K
-      u = called new s i a j .0
+      u = called s i a j .0
 
-      either : (z : ℤ) → Life K (s .wish) (both i a j b k) (reply z) t (s .state t) (unless z s (called new (called new s i a j .0) i b k .0) .state t)
+      either : (z : ℤ) → Life K (s .wish) (both i a j b k) (reply z) t (s .state t) (unless z s (called (called s i a j .0) i b k .0) .state t)
       either (negsuc c) = stays
       either (pos c) =
-          together (s .wish) (both i a j b k) (done (pos c)) i t (called new s i a j .0 .wish) (λ n. called-wish new s i a j t n) former latter (called-does new law s g i a j t)
-          (called-does new law (called new s i a j .0) (called-fine new law s g i a j) i b k t)
+          together (s .wish) (both i a j b k) (done (pos c)) i t (called s i a j .0 .wish) (λ n. called-wish s i a j t n) former latter (called-does law s g i a j t)
+          (called-does law (called s i a j .0) (called-fine law s g i a j) i b k t)
 
-      go : (y : Bool) → Life K (s .wish) (both i a j b k) (cond {A = Sys K × Answer} y (s, denied einval) (unless (answers new s i a j b k) s (called new (called new s i a j .0) i b k .0), reply (answers new s i a j b k)) .1) t (s .state t)
-          (cond {A = Sys K × Answer} y (s, denied einval) (unless (answers new s i a j b k) s (called new (called new s i a j .0) i b k .0), reply (answers new s i a j b k)) .0 .state t)
+      go : (y : Bool) → Life K (s .wish) (both i a j b k) (cond {A = Reply K} y (refuse s einval) (paired s i a j b k) .1) t (s .state t)
+          (cond {A = Reply K} y (refuse s einval) (paired s i a j b k) .0 .state t)
       go true = stays
-      go false = either (answers new s i a j b k)
+      go false = either (answers s i a j b k)
   lives (dispatch i) = go (s .state i) refl
     where
       at : (r : ℤ) → s .state i ≡ ready r → (c : Bool) → eqb i t ≡ c → Life K (s .wish) (dispatch i) (done r) t (s .state t) (cond c running (s .state t))
       at r h true e = let y : s .state t ≡ ready r = ap (s .state) (sym (eqb-true i t e)) ∙ h in rw (y, eqb-true i t e) back
       at r h false e = stays
 
-      go : (y : State) → s .state i ≡ y → Life K (s .wish) (dispatch i) (dispatched new y s i .1) t (s .state t) (dispatched new y s i .0 .state t)
+      go : (y : State) → s .state i ≡ y → Life K (s .wish) (dispatch i) (dispatched y s i .1) t (s .state t) (dispatched y s i .0 .state t)
       go absent h = stays
       go running h = stays
       go (ready r) h = at r h (eqb i t) refl
@@ -220,7 +220,7 @@ module _ {K : Kind} (new : K .Num → Bool) (law : Lawful K) (s : Sys K) (g : Fi
       at h true e = let y : s .state t ≡ running = ap (s .state) (sym (eqb-true i t e)) ∙ h in rw (y, eqb-true i t e) aside
       at h false e = stays
 
-      go : (y : State) → s .state i ≡ y → Life K (s .wish) (yield i) (yielded new y s i .1) t (s .state t) (yielded new y s i .0 .state t)
+      go : (y : State) → s .state i ≡ y → Life K (s .wish) (yield i) (yielded y s i .1) t (s .state t) (yielded y s i .0 .state t)
       go absent h = stays
       go running h = at h (eqb i t) refl
       go (ready r) h = stays
@@ -231,7 +231,7 @@ module _ {K : Kind} (new : K .Num → Bool) (law : Lawful K) (s : Sys K) (g : Fi
       at o h true e = let y : s .state t ≡ waiting o = ap (s .state) (sym (eqb-true i t e)) ∙ h in rw (y, eqb-true i t e) late
       at o h false e = stays
 
-      go : (y : State) → s .state i ≡ y → Life K (s .wish) (expire i) (expired new y s i .1) t (s .state t) (expired new y s i .0 .state t)
+      go : (y : State) → s .state i ≡ y → Life K (s .wish) (expire i) (expired y s i .1) t (s .state t) (expired y s i .0 .state t)
       go absent h = stays
       go running h = stays
       go (ready r) h = stays
@@ -248,14 +248,14 @@ module _ {K : Kind} (new : K .Num → Bool) (law : Lawful K) (s : Sys K) (g : Fi
       at h true e = let y : s .state t ≡ absent = ap (s .state) (sym (eqb-true i t e)) ∙ h in rw (y, eqb-true i t e) born
       at h false e = stays
 
-      go : (a b d : Bool) → gone-by (s .state i) ≡ a → ltb i 4294967296 ≡ b → valid p ≡ d → Life K (s .wish) (spawn i p) (spawned new s i p .1) t (s .state t) (spawned new s i p .0 .state t)
+      go : (a b d : Bool) → gone-by (s .state i) ≡ a → ltb i 4294967296 ≡ b → valid p ≡ d → Life K (s .wish) (spawn i p) (spawned s i p .1) t (s .state t) (spawned s i p .0 .state t)
       go true true true x y z = rw (x, y, z) (at (nobody (s .state i) x) (eqb i t) refl)
       go true true false x y z = rw (x, y, z) stays
       go true false d x y z = rw (x, y) stays
       go false b d x y z = rw x stays
-  lives (create o n) = go (free (s .slot o)) (new n) refl refl
+  lives (create o n) = go (free (s .slot o)) (K .new n) refl refl
     where
-      go : (a b : Bool) → free (s .slot o) ≡ a → new n ≡ b → Life K (s .wish) (create o n) (created new s o n .1) t (s .state t) (created new s o n .0 .state t)
+      go : (a b : Bool) → free (s .slot o) ≡ a → K .new n ≡ b → Life K (s .wish) (create o n) (created s o n .1) t (s .state t) (created s o n .0 .state t)
       go true true x y = rw (x, y) stays
       go true false x y = rw (x, y) stays
       go false b x y = rw x stays

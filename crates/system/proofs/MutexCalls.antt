@@ -25,7 +25,7 @@ use Rattle.mutex.proofs.Histories.{never}
 use Rattle.system.specs.Sum.{_⊕_, onLeft, onRight, mapped}
 use Rattle.system.specs.System.{absent, running, number, Slot, vacant, object, Sys, unless, serve, outcome, verdict, visited, called}
 use Rattle.system.specs.Rules.{Fine}
-use Rattle.system.specs.Rtos.{sems, mutexes, condvars, futexes, rtos, aMutex, mutexCall, new}
+use Rattle.system.specs.Rtos.{sems, mutexes, condvars, futexes, rtos, aMutex, mutexCall}
 use Rattle.system.specs.Mutexes.{seen, owner, countsCall}
 use Rattle.system.proofs.Calls.{runs, barred, granted}
 
@@ -146,27 +146,27 @@ module _ (s : Sys rtos) (g : Fine s) (i : ℕ) (k : rtos .Call) (o : ℕ) where
   refusal a c = nothing refl (λ x z. refl) (λ m z. z) (λ d. uncounted k c d (eqb a o) (owns i (owner s o)))
 
   -- a call of another object
-  elsewhere : (a : ℕ) → eqb a o ≡ false → (d : Verdict (rtos .Num) (rtos .Wish)) (u : Out (rtos .Num)) (c r : ℤ) → Did s i a k o (unless c s (serve new s i a d u)) r
+  elsewhere : (a : ℕ) → eqb a o ≡ false → (d : Verdict (rtos .Num) (rtos .Wish)) (u : Out (rtos .Num)) (c r : ℤ) → Did s i a k o (unless c s (serve s i a d u)) r
   elsewhere a e d u (pos c) r = nothing (rw e) (λ x z. rw e) (λ m z. rw e z) (λ d. rw e)
   elsewhere a e d u (negsuc c) r = nothing refl (λ x z. refl) (λ m z. z) (λ d. rw e)
 
   -- a call of o, which is no mutex
   other : (n : rtos .Num) → s .slot o ≡ object n → seen (object n) ≡ free → ((m : Mutex) → object n ≡ object (aMutex m) → ⊥)
-      → (d : Verdict (rtos .Num) (rtos .Wish)) (u : Out (rtos .Num)) → seen (object (u .num)) ≡ free → (c r : ℤ) → Did s i o k o (unless c s (serve new s i o d u)) r
+      → (d : Verdict (rtos .Num) (rtos .Wish)) (u : Out (rtos .Num)) → seen (object (u .num)) ≡ free → (c r : ℤ) → Did s i o k o (unless c s (serve s i o d u)) r
   other n h f e d u v c r =
       nothing (state c) (λ x z. never (sym owned ∙ z)) (λ m z. absurd (e m (sym h ∙ z))) (λ d. rw owned (cond-same (eqb o o) d))
     where
       owned : owner s o ≡ nobody
       owned = ap (λ x. seen x .owner) h ∙ ap (λ m. m .owner) f
 
-      state : (c : ℤ) → seen (unless c s (serve new s i o d u) .slot o) ≡ seen (s .slot o)
+      state : (c : ℤ) → seen (unless c s (serve s i o d u) .slot o) ≡ seen (s .slot o)
       state (pos c) = rw (eq-eqb o o refl, v, h, f) refl
       state (negsuc c) = refl
 
   -- a call of o, which is a mutex
   module _ (m : Mutex) (h : s .slot o ≡ object (aMutex m)) (j : Call) where
     abbrev then : ℤ → Sys rtos
-    then c = unless c s (serve new s i o (verdict new s i o (mutexCall j) (aMutex m)) (wrapped (gets s i o j m)))
+    then c = unless c s (serve s i o (verdict s i o (mutexCall j) (aMutex m)) (wrapped (gets s i o j m)))
 
     slot-done : (c : ℤ) → gets s i o j m .turn .code ≡ c → then c .slot o ≡ object (aMutex (gets s i o j m .num))
     slot-done (pos c) z = rw (eq-eqb o o refl)
@@ -181,39 +181,39 @@ module _ (s : Sys rtos) (g : Fine s) (i : ℕ) (k : rtos .Call) (o : ℕ) where
 
 -- what is known of the outcome of a call
 abbrev Ends : Sys rtos → ℕ → ℕ → rtos .Call → ℕ → rtos .Num → Out (rtos .Num) → Type 0
-Ends s i a k o n u = Did s i a k o (unless (u .turn .code) s (serve new s i a (verdict new s i a k n) u)) (u .turn .code)
+Ends s i a k o n u = Did s i a k o (unless (u .turn .code) s (serve s i a (verdict s i a k n) u)) (u .turn .code)
 
-ends : (s : Sys rtos) (i a : ℕ) (k : rtos .Call) (o : ℕ) (n : rtos .Num) (u : Out (rtos .Num)) → outcome new s i a k n ≡ u → Ends s i a k o n u
-    → Did s i a k o (visited new (object n) s i a k .0) (visited new (object n) s i a k .1)
+ends : (s : Sys rtos) (i a : ℕ) (k : rtos .Call) (o : ℕ) (n : rtos .Num) (u : Out (rtos .Num)) → outcome s i a k n ≡ u → Ends s i a k o n u
+    → Did s i a k o (visited (object n) s i a k .0) (visited (object n) s i a k .1)
 ends s i a k o n u e x = subst (Ends s i a k o n) (sym e) x
 
 -- by a thread that runs, of the object o itself
 module _ (s : Sys rtos) (g : Fine s) (i o : ℕ) (l : i < 4294967296) (c : ℕ) (z : callerCode (s .prio i) (number (s .state i)) ≡ pos c) where
-  here : (n : rtos .Num) (k : rtos .Call) → s .slot o ≡ object n → Did s i o k o (visited new (object n) s i o k .0) (visited new (object n) s i o k .1)
-  here (inr (inl m)) (inl k) h = ends s i o (inl k) o (aMutex m) _ (granted new s i o (inl k) (aMutex m) (g .formed o (aMutex m) h) c z) (refusal s g i (inl k) o o 21)
-  here (inr (inl m)) (inr (inr k)) h = ends s i o (inr (inr k)) o (aMutex m) _ (granted new s i o (inr (inr k)) (aMutex m) (g .formed o (aMutex m) h) c z) (refusal s g i (inr (inr k)) o o 21)
+  here : (n : rtos .Num) (k : rtos .Call) → s .slot o ≡ object n → Did s i o k o (visited (object n) s i o k .0) (visited (object n) s i o k .1)
+  here (inr (inl m)) (inl k) h = ends s i o (inl k) o (aMutex m) _ (granted s i o (inl k) (aMutex m) (g .formed o (aMutex m) h) c z) (refusal s g i (inl k) o o 21)
+  here (inr (inl m)) (inr (inr k)) h = ends s i o (inr (inr k)) o (aMutex m) _ (granted s i o (inr (inr k)) (aMutex m) (g .formed o (aMutex m) h) c z) (refusal s g i (inr (inr k)) o o 21)
   here (inr (inl m)) (inr (inl j)) h =
       ends s i o (mutexCall j) o (aMutex m) _ (call-wrapped (s .wish) (caller s i) j m (s .queue o)) (at-mutex s g i (mutexCall j) o m h j l refl)
   here (inl n) k h =
-      other s g i k o (inl n) h refl (λ m e. absurd (let y : _≡_ {A = ℕ} 0 1 = cc in omega arith)) (verdict new s i o k (inl n)) (outcome new s i o k (inl n))
-      (rw (granted new s i o k (inl n) (g .formed o (inl n) h) c z)
-      (carried-foreign (obj.thread i (s .prio i) 1) (verdict new s i o k (inl n)) (inl n) (s .queue o) (by-left n (s .wish) (map ident (s .queue o)) i k) refl))
-      (outcome new s i o k (inl n) .turn .code) (outcome new s i o k (inl n) .turn .code)
+      other s g i k o (inl n) h refl (λ m e. absurd (let y : _≡_ {A = ℕ} 0 1 = cc in omega arith)) (verdict s i o k (inl n)) (outcome s i o k (inl n))
+      (rw (granted s i o k (inl n) (g .formed o (inl n) h) c z)
+      (carried-foreign (obj.thread i (s .prio i) 1) (verdict s i o k (inl n)) (inl n) (s .queue o) (by-left n (s .wish) (map ident (s .queue o)) i k) refl))
+      (outcome s i o k (inl n) .turn .code) (outcome s i o k (inl n) .turn .code)
   here (inr (inr n)) k h =
-      other s g i k o (inr (inr n)) h refl (λ m e. absurd (let y : _≡_ {A = ℕ} 0 1 = cc in omega arith)) (verdict new s i o k (inr (inr n))) (outcome new s i o k (inr (inr n)))
-      (rw (granted new s i o k (inr (inr n)) (g .formed o (inr (inr n)) h) c z)
-      (carried-foreign (obj.thread i (s .prio i) 1) (verdict new s i o k (inr (inr n))) (inr (inr n)) (s .queue o) (by-right n (s .wish) (map ident (s .queue o)) i k) refl))
-      (outcome new s i o k (inr (inr n)) .turn .code) (outcome new s i o k (inr (inr n)) .turn .code)
+      other s g i k o (inr (inr n)) h refl (λ m e. absurd (let y : _≡_ {A = ℕ} 0 1 = cc in omega arith)) (verdict s i o k (inr (inr n))) (outcome s i o k (inr (inr n)))
+      (rw (granted s i o k (inr (inr n)) (g .formed o (inr (inr n)) h) c z)
+      (carried-foreign (obj.thread i (s .prio i) 1) (verdict s i o k (inr (inr n))) (inr (inr n)) (s .queue o) (by-right n (s .wish) (map ident (s .queue o)) i k) refl))
+      (outcome s i o k (inr (inr n)) .turn .code) (outcome s i o k (inr (inr n)) .turn .code)
 
 -- every call
-pub called-did : (s : Sys rtos) → Fine s → (i a : ℕ) (k : rtos .Call) (o : ℕ) → Did s i a k o (called new s i a k .0) (called new s i a k .1)
+pub called-did : (s : Sys rtos) → Fine s → (i a : ℕ) (k : rtos .Call) (o : ℕ) → Did s i a k o (called s i a k .0) (called s i a k .1)
 called-did s g i a k o = go (s .slot a) refl
   where
-    go : (x : Slot (rtos .Num)) → s .slot a ≡ x → Did s i a k o (visited new x s i a k .0) (visited new x s i a k .1)
+    go : (x : Slot (rtos .Num)) → s .slot a ≡ x → Did s i a k o (visited x s i a k .0) (visited x s i a k .1)
     go vacant h = refusal s g i k o a 21
     go (object n) h = by (callerCode (s .prio i) (number (s .state i))) refl
       where
-        place : (c : ℕ) → callerCode (s .prio i) (number (s .state i)) ≡ pos c → (b : Bool) → eqb a o ≡ b → Did s i a k o (visited new (object n) s i a k .0) (visited new (object n) s i a k .1)
+        place : (c : ℕ) → callerCode (s .prio i) (number (s .state i)) ≡ pos c → (b : Bool) → eqb a o ≡ b → Did s i a k o (visited (object n) s i a k .0) (visited (object n) s i a k .1)
         place c z true e = rw (eqb-true a o e) (here s g i o l c z n k (rw (eqb-true a o e) at h))
           where
             r : s .state i ≡ running
@@ -221,8 +221,8 @@ called-did s g i a k o = go (s .slot a) refl
 
             l : i < 4294967296
             l = g .known i (λ a. let v : running ≡ absent = sym r ∙ a in absurd (let y : _≡_ {A = ℕ} 0 1 = cc in omega arith)) .0
-        place c z false e = elsewhere s g i k o a e (verdict new s i a k n) (outcome new s i a k n) (outcome new s i a k n .turn .code) (outcome new s i a k n .turn .code)
+        place c z false e = elsewhere s g i k o a e (verdict s i a k n) (outcome s i a k n) (outcome s i a k n .turn .code) (outcome s i a k n .turn .code)
 
-        by : (z : ℤ) → callerCode (s .prio i) (number (s .state i)) ≡ z → Did s i a k o (visited new (object n) s i a k .0) (visited new (object n) s i a k .1)
-        by (negsuc c) z = ends s i a k o n _ (barred new s i a k n (g .formed a n h) c z) (refusal s g i k o a c)
+        by : (z : ℤ) → callerCode (s .prio i) (number (s .state i)) ≡ z → Did s i a k o (visited (object n) s i a k .0) (visited (object n) s i a k .1)
+        by (negsuc c) z = ends s i a k o n _ (barred s i a k n (g .formed a n h) c z) (refusal s g i k o a c)
         by (pos c) z = place c z (eqb a o) refl

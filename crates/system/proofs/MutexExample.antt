@@ -9,7 +9,7 @@ use Rattle.mutex.specs.Mutex.{thread, lock, unlock, free, taken}
 use Rattle.system.specs.System.{absent, ready, waiting, vacant, object, Sys, Op, invoke, dispatch, spawn, create, after}
 use Rattle.system.specs.Rules.{Start}
 use Rattle.system.specs.Order.{Wakes}
-use Rattle.system.specs.Rtos.{rtos, aMutex, aCondvar, mutexCall, new}
+use Rattle.system.specs.Rtos.{rtos, aMutex, aCondvar, mutexCall}
 use Rattle.system.specs.Mutexes.{depth}
 use Rattle.system.specs.Theorems.{waitsWith}
 use Rattle.system.proofs.Theorems.{theorems}
@@ -29,12 +29,12 @@ locked =
 abbrev passed : List (Op rtos)
 passed = waitsWith 1 7 8 ∷ invoke 1 7 (mutexCall unlock) ∷ locked
 
-pub two : (after new empty locked .slot 7 ≡ object (aMutex (record { owner = thread 1; count = 2 }))) × (depth empty locked 7 ≡ 2) × (after new empty locked .state 2 ≡ waiting 7)
+pub two : (after empty locked .slot 7 ≡ object (aMutex (record { owner = thread 1; count = 2 }))) × (depth empty locked 7 ≡ 2) × (after empty locked .state 2 ≡ waiting 7)
 unfolding maxWaiters
 two = (refl, refl, refl)
 
 -- the wait hands the mutex to 2, which has one lock
-pub one : (after new empty passed .slot 7 ≡ object (aMutex (taken 2))) × (depth empty passed 7 ≡ 1) × (after new empty passed .state 2 ≡ ready ok) × (after new empty passed .state 1 ≡ waiting 8)
+pub one : (after empty passed .slot 7 ≡ object (aMutex (taken 2))) × (depth empty passed 7 ≡ 1) × (after empty passed .state 2 ≡ ready ok) × (after empty passed .state 1 ≡ waiting 8)
 unfolding maxWaiters
 one = (refl, refl, refl, refl)
 
@@ -47,18 +47,18 @@ alone =
 abbrev wanted : List (Op rtos)
 wanted = invoke 2 7 (mutexCall lock) ∷ invoke 3 7 (mutexCall lock) ∷ invoke 1 7 (mutexCall lock) ∷ alone
 
-pub left-free : (after new empty alone .slot 7 ≡ object (aMutex free)) × (after new empty alone .state 4 ≡ waiting 8)
+pub left-free : (after empty alone .slot 7 ≡ object (aMutex free)) × (after empty alone .state 4 ≡ waiting 8)
 unfolding maxWaiters
 left-free = (refl, refl)
 
 -- the wait of 1 hands the mutex to 2; 3 waits on, and 1 stands behind 4
-pub handed : (after new empty (waitsWith 1 7 8 ∷ wanted) .slot 7 ≡ object (aMutex (taken 2))) × (after new empty (waitsWith 1 7 8 ∷ wanted) .state 2 ≡ ready ok)
-    × (after new empty (waitsWith 1 7 8 ∷ wanted) .queue 7 ≡ entry 5 3 ∷ []) × (after new empty (waitsWith 1 7 8 ∷ wanted) .queue 8 ≡ entry 5 4 ∷ entry 5 1 ∷ [])
-    × (after new empty (waitsWith 1 7 8 ∷ wanted) .state 1 ≡ waiting 8)
+pub handed : (after empty (waitsWith 1 7 8 ∷ wanted) .slot 7 ≡ object (aMutex (taken 2))) × (after empty (waitsWith 1 7 8 ∷ wanted) .state 2 ≡ ready ok)
+    × (after empty (waitsWith 1 7 8 ∷ wanted) .queue 7 ≡ entry 5 3 ∷ []) × (after empty (waitsWith 1 7 8 ∷ wanted) .queue 8 ≡ entry 5 4 ∷ entry 5 1 ∷ [])
+    × (after empty (waitsWith 1 7 8 ∷ wanted) .state 1 ≡ waiting 8)
 unfolding maxWaiters
 handed = (refl, refl, refl, refl, refl)
 
 -- as the theorem says, all of whose premises hold here
-pub handed-too : Wakes new empty wanted (waitsWith 1 7 8) 7 ok (entry 3 2) (entry 5 3 ∷ []) (1 ∷ [])
+pub handed-too : Wakes empty wanted (waitsWith 1 7 8) 7 ok (entry 3 2) (entry 5 3 ∷ []) (1 ∷ [])
 unfolding maxWaiters
 handed-too = theorems empty empty-start wanted .first .wait 1 7 8 (entry 3 2) (entry 5 3 ∷ []) refl refl refl refl (omega arith) .0

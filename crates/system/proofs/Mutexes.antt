@@ -25,14 +25,14 @@ use Rattle.mutex.specs.History.{same, counts, begins}
 use Rattle.mutex.proofs.Moves.{Move, refuses, takes, nests, joins, unnests, frees, hands}
 use Rattle.mutex.proofs.Histories.{thread-is, never, same-owner, apart-next, count-next, small-next, has-count, has-none}
 use Rattle.system.specs.System as system
-use Rattle.system.specs.System.{State, absent, running, waiting, number, Slot, vacant, object, Sys, Op, invoke, both, dispatch, yield, expire, spawn, create, upd, unless, Answer, done, denied, reply, ready, gone-by, called, dispatched, yielded, expired, spawned, created, answers, step, after}
+use Rattle.system.specs.System.{State, absent, running, waiting, number, Slot, vacant, object, Sys, Op, invoke, both, dispatch, yield, expire, spawn, create, upd, unless, Answer, done, denied, reply, ready, gone-by, called, dispatched, yielded, expired, spawned, created, answers, step, after, Reply, accept, refuse, paired, placed}
 use Rattle.system.specs.Rules.{times, on, Fine, Start}
-use Rattle.system.specs.Rtos.{rtos, aMutex, mutexCall, new}
+use Rattle.system.specs.Rtos.{rtos, aMutex, mutexCall}
 use Rattle.system.specs.Mutexes.{Gives, unlocks, releases, LetsGo, IsMutex, seen, owner, countsCall, tally, told, depth, Apart, Mutexes}
 use Rattle.system.proofs.Times.{unheld}
 use Rattle.system.proofs.Calls.{called-fine}
 use Rattle.system.proofs.Steps.{always}
-use Rattle.system.proofs.Sum.{rtos-lawful, rtos-new}
+use Rattle.system.proofs.Sum.{rtos-lawful}
 use Rattle.system.proofs.MutexCalls.{caller, gets, move, Did, nothing, something, called-did}
 
 -- the owner is not in the queue, and the count is small
@@ -159,7 +159,7 @@ fresh : (o : Owner) (c : ℕ) → cond (held o) false (eqb c 0) ≡ true → _�
 fresh nobody c h = rw (eqb-true c 0 h) refl
 fresh (thread i) c h = clash (sym h)
 
-made : (n : rtos .Num) → new n ≡ true → seen (object n) ≡ free
+made : (n : rtos .Num) → rtos .new n ≡ true → seen (object n) ≡ free
 made (inl n) h = refl
 made (inr (inl m)) h = fresh (m .owner) (m .count) h
 made (inr (inr n)) h = refl
@@ -174,19 +174,19 @@ module _ (s : Sys rtos) (o : ℕ) where
   still : Quiet s s o
   still = record { same = refl; fewer = λ x z. z; stays = λ m z. z }
 
-  dispatch-quiet : (i : ℕ) (x : State) → Quiet s (dispatched new x s i .0) o
+  dispatch-quiet : (i : ℕ) (x : State) → Quiet s (dispatched x s i .0) o
   dispatch-quiet i absent = still
   dispatch-quiet i running = still
   dispatch-quiet i (ready r) = record { same = refl; fewer = λ x z. z; stays = λ m z. z }
   dispatch-quiet i (waiting a) = still
 
-  yield-quiet : (i : ℕ) (x : State) → Quiet s (yielded new x s i .0) o
+  yield-quiet : (i : ℕ) (x : State) → Quiet s (yielded x s i .0) o
   yield-quiet i absent = still
   yield-quiet i running = record { same = refl; fewer = λ x z. z; stays = λ m z. z }
   yield-quiet i (ready r) = still
   yield-quiet i (waiting a) = still
 
-  expire-quiet : (i : ℕ) (x : State) → Quiet s (expired new x s i .0) o
+  expire-quiet : (i : ℕ) (x : State) → Quiet s (expired x s i .0) o
   expire-quiet i absent = still
   expire-quiet i running = still
   expire-quiet i (ready r) = still
@@ -196,20 +196,20 @@ module _ (s : Sys rtos) (o : ℕ) where
       fewer x true e z = sub-has (of x) (others-sub (of i) (s .queue a)) (rw (eqb-true a o e) z)
       fewer x false e z = z
 
-  spawn-quiet : (i p : ℕ) → Quiet s (spawned new s i p .0) o
+  spawn-quiet : (i p : ℕ) → Quiet s (spawned s i p .0) o
   spawn-quiet i p = go (gone-by (s .state i)) (ltb i 4294967296) (valid p) refl refl refl
     where
-      go : (a b c : Bool) → gone-by (s .state i) ≡ a → ltb i 4294967296 ≡ b → valid p ≡ c → Quiet s (spawned new s i p .0) o
+      go : (a b c : Bool) → gone-by (s .state i) ≡ a → ltb i 4294967296 ≡ b → valid p ≡ c → Quiet s (spawned s i p .0) o
       go true true true x y z = rw (x, y, z) (record { same = refl; fewer = λ x z. z; stays = λ m z. z })
       go true true false x y z = rw (x, y, z) still
       go true false c x y z = rw (x, y) still
       go false b c x y z = rw x still
 
-  create-quiet : (a : ℕ) (n : rtos .Num) → Quiet s (created new s a n .0) o
-  create-quiet a n = go (s .slot a) (new n) refl refl
+  create-quiet : (a : ℕ) (n : rtos .Num) → Quiet s (created s a n .0) o
+  create-quiet a n = go (s .slot a) (rtos .new n) refl refl
     where
-      go : (x : Slot (rtos .Num)) (b : Bool) → s .slot a ≡ x → new n ≡ b
-          → Quiet s (cond {A = Sys rtos × Answer} (system.free x) (cond b (record { prio = s .prio; state = s .state; wish = s .wish; slot = upd (s .slot) a (object n); queue = s .queue }, done ok) (s, denied einval)) (s, denied einval) .0) o
+      go : (x : Slot (rtos .Num)) (b : Bool) → s .slot a ≡ x → rtos .new n ≡ b
+          → Quiet s (cond {A = Reply rtos} (system.free x) (cond b (accept (placed s a n) ok) (refuse s einval)) (refuse s einval) .0) o
       go (object m) b h z = still
       go vacant false h z = still
       go vacant true h z = record { same = is (eqb a o) refl; fewer = λ x z. z; stays = λ m. stays m (eqb a o) refl }
@@ -226,22 +226,22 @@ module _ (s : Sys rtos) (o : ℕ) where
 -- what an operation does to the object o
 data Stepped (s : Sys rtos) (o : ℕ) (x : Op rtos) (t : Sys rtos) : Type 0 where
   quiet : Quiet s t o → ((d : ℕ) → told s o x d ≡ d) → Stepped s o x t
-  one : (i a : ℕ) (k : rtos .Call) → x ≡ invoke i a k → t ≡ called new s i a k .0 → ((d : ℕ) → told s o x d ≡ tally s o i a k d) → Stepped s o x t
-  two : (i a : ℕ) (j : rtos .Call) (b : ℕ) (k : rtos .Call) → x ≡ both i a j b k → t ≡ called new (called new s i a j .0) i b k .0
-      → ((d : ℕ) → told s o x d ≡ tally (called new s i a j .0) o i b k (tally s o i a j d)) → Stepped s o x t
+  one : (i a : ℕ) (k : rtos .Call) → x ≡ invoke i a k → t ≡ called s i a k .0 → ((d : ℕ) → told s o x d ≡ tally s o i a k d) → Stepped s o x t
+  two : (i a : ℕ) (j : rtos .Call) (b : ℕ) (k : rtos .Call) → x ≡ both i a j b k → t ≡ called (called s i a j .0) i b k .0
+      → ((d : ℕ) → told s o x d ≡ tally (called s i a j .0) o i b k (tally s o i a j d)) → Stepped s o x t
 
-stepped : (s : Sys rtos) (o : ℕ) (x : Op rtos) → Stepped s o x (step new s x .0)
+stepped : (s : Sys rtos) (o : ℕ) (x : Op rtos) → Stepped s o x (step s x .0)
 stepped s o (invoke i a k) = one i a k refl refl (λ d. refl)
 stepped s o (both i a j b k) = go (eqb a b) refl
   where
-    either : eqb a b ≡ false → (z : ℤ) → answers new s i a j b k ≡ z → Stepped s o (both i a j b k) (unless z s (called new (called new s i a j .0) i b k .0))
+    either : eqb a b ≡ false → (z : ℤ) → answers s i a j b k ≡ z → Stepped s o (both i a j b k) (unless z s (called (called s i a j .0) i b k .0))
     either e (pos c) z = two i a j b k refl refl (λ d. rw (e, z) refl)
     either e (negsuc c) z = quiet (still s o) (λ d. rw (e, z) refl)
 
     go : (c : Bool) → eqb a b ≡ c
-        → Stepped s o (both i a j b k) (cond {A = Sys rtos × Answer} c (s, denied einval) (unless (answers new s i a j b k) s (called new (called new s i a j .0) i b k .0), reply (answers new s i a j b k)) .0)
+        → Stepped s o (both i a j b k) (cond {A = Reply rtos} c (refuse s einval) (paired s i a j b k) .0)
     go true e = quiet (still s o) (λ d. rw e refl)
-    go false e = either e (answers new s i a j b k) refl
+    go false e = either e (answers s i a j b k) refl
 stepped s o (dispatch i) = quiet (dispatch-quiet s o i (s .state i)) (λ d. refl)
 stepped s o (yield i) = quiet (yield-quiet s o i (s .state i)) (λ d. refl)
 stepped s o (expire i) = quiet (expire-quiet s o i (s .state i)) (λ d. refl)
@@ -250,20 +250,20 @@ stepped s o (create a n) = quiet (create-quiet s o a n) (λ d. refl)
 
 -- a call, in a state that is as it should be
 module _ (s : Sys rtos) (g : Fine s) (o : ℕ) (f : Fit s o) (i a : ℕ) (k : rtos .Call) where
-  next-fine : Fine (called new s i a k .0)
-  next-fine = called-fine new rtos-lawful s g i a k
+  next-fine : Fine (called s i a k .0)
+  next-fine = called-fine rtos-lawful s g i a k
 
-  next-fit : Fit (called new s i a k .0) o
-  next-fit = did-fit s g o f i a k (called new s i a k .0) (called new s i a k .1) (called-did s g i a k o)
+  next-fit : Fit (called s i a k .0) o
+  next-fit = did-fit s g o f i a k (called s i a k .0) (called s i a k .1) (called-did s g i a k o)
 
-  next-owner : (x : ℕ) → owner s o ≡ thread x → (owner (called new s i a k .0) o ≡ thread x) ⊎ ((i ≡ x) × Gives o a k)
-  next-owner = did-owner s g o f i a k (called new s i a k .0) (called new s i a k .1) (called-did s g i a k o)
+  next-owner : (x : ℕ) → owner s o ≡ thread x → (owner (called s i a k .0) o ≡ thread x) ⊎ ((i ≡ x) × Gives o a k)
+  next-owner = did-owner s g o f i a k (called s i a k .0) (called s i a k .1) (called-did s g i a k o)
 
-  next-stays : (m : Mutex) → s .slot o ≡ object (aMutex m) → IsMutex (called new s i a k .0) o
-  next-stays = did-stays s g o f i a k (called new s i a k .0) (called new s i a k .1) (called-did s g i a k o)
+  next-stays : (m : Mutex) → s .slot o ≡ object (aMutex m) → IsMutex (called s i a k .0) o
+  next-stays = did-stays s g o f i a k (called s i a k .0) (called s i a k .1) (called-did s g i a k o)
 
-  next-count : (d : ℕ) → seen (s .slot o) .count ≡ d → seen (called new s i a k .0 .slot o) .count ≡ tally s o i a k d
-  next-count = did-count s g o f i a k (called new s i a k .0) (called new s i a k .1) (called-did s g i a k o)
+  next-count : (d : ℕ) → seen (s .slot o) .count ≡ d → seen (called s i a k .0 .slot o) .count ≡ tally s o i a k d
+  next-count = did-count s g o f i a k (called s i a k .0) (called s i a k .1) (called-did s g i a k o)
 
 -- an operation
 module _ (s : Sys rtos) (g : Fine s) (o : ℕ) (f : Fit s o) (x : Op rtos) (t : Sys rtos) where
@@ -273,58 +273,58 @@ module _ (s : Sys rtos) (g : Fine s) (o : ℕ) (f : Fit s o) (x : Op rtos) (t : 
       (λ x z. q .fewer x (f .0 x (sym y ∙ z)), subst (λ m. m .count ≤ maxCount) (sym (q .same)) (f .1))
   fit-step (one i a k y e c) = subst (λ t. Fit t o) (sym e) (next-fit s g o f i a k)
   fit-step (two i a j b k y e c) =
-      subst (λ t. Fit t o) (sym e) (next-fit (called new s i a j .0) (next-fine s g o f i a j) o (next-fit s g o f i a j) i b k)
+      subst (λ t. Fit t o) (sym e) (next-fit (called s i a j .0) (next-fine s g o f i a j) o (next-fit s g o f i a j) i b k)
 
   count-step : Stepped s o x t → (d : ℕ) → seen (s .slot o) .count ≡ d → seen (t .slot o) .count ≡ told s o x d
   count-step (quiet q c) d z = ap (λ m. m .count) (q .same) ∙ z ∙ sym (c d)
   count-step (one i a k y e c) d z = ap (λ t. seen (t .slot o) .count) e ∙ next-count s g o f i a k d z ∙ sym (c d)
   count-step (two i a j b k y e c) d z =
       ap (λ t. seen (t .slot o) .count) e
-      ∙ next-count (called new s i a j .0) (next-fine s g o f i a j) o (next-fit s g o f i a j) i b k (tally s o i a j d) (next-count s g o f i a j d z)
+      ∙ next-count (called s i a j .0) (next-fine s g o f i a j) o (next-fit s g o f i a j) i b k (tally s o i a j d) (next-count s g o f i a j d z)
       ∙ sym (c d)
 
   stays-step : Stepped s o x t → (m : Mutex) → s .slot o ≡ object (aMutex m) → IsMutex t o
   stays-step (quiet q c) m z = record { numbers = m; is = q .stays m z }
   stays-step (one i a k y e c) m z = subst (λ t. IsMutex t o) (sym e) (next-stays s g o f i a k m z)
   stays-step (two i a j b k y e c) m z =
-      let u : IsMutex (called new s i a j .0) o = next-stays s g o f i a j m z in
-      subst (λ t. IsMutex t o) (sym e) (next-stays (called new s i a j .0) (next-fine s g o f i a j) o (next-fit s g o f i a j) i b k (u .numbers) (u .is))
+      let u : IsMutex (called s i a j .0) o = next-stays s g o f i a j m z in
+      subst (λ t. IsMutex t o) (sym e) (next-stays (called s i a j .0) (next-fine s g o f i a j) o (next-fit s g o f i a j) i b k (u .numbers) (u .is))
 
   owner-step : Stepped s o x t → (w : ℕ) → owner s o ≡ thread w → (owner t o ≡ thread w → ⊥) → LetsGo w o x
   owner-step (quiet q c) w z n = absurd (n (ap (λ m. m .owner) (q .same) ∙ z))
   owner-step (one i a k y e c) w z n = subst (LetsGo w o) (sym y) (go (next-owner s g o f i a k w z))
     where
-      go : (owner (called new s i a k .0) o ≡ thread w) ⊎ ((i ≡ w) × Gives o a k) → LetsGo w o (invoke i a k)
+      go : (owner (called s i a k .0) o ≡ thread w) ⊎ ((i ≡ w) × Gives o a k) → LetsGo w o (invoke i a k)
       go (inl v) = absurd (n (ap (λ t. owner t o) e ∙ v))
       go (inr v) = v
   owner-step (two i a j b k y e c) w z n = subst (LetsGo w o) (sym y) (go (next-owner s g o f i a j w z))
     where
-      then-owner : (owner (called new (called new s i a j .0) i b k .0) o ≡ thread w) ⊎ ((i ≡ w) × Gives o b k) → LetsGo w o (both i a j b k)
+      then-owner : (owner (called (called s i a j .0) i b k .0) o ≡ thread w) ⊎ ((i ≡ w) × Gives o b k) → LetsGo w o (both i a j b k)
       then-owner (inl v) = absurd (n (ap (λ t. owner t o) e ∙ v))
       then-owner (inr v) = (v .0, inr (v .1))
 
-      go : (owner (called new s i a j .0) o ≡ thread w) ⊎ ((i ≡ w) × Gives o a j) → LetsGo w o (both i a j b k)
-      go (inl v) = then-owner (next-owner (called new s i a j .0) (next-fine s g o f i a j) o (next-fit s g o f i a j) i b k w v)
+      go : (owner (called s i a j .0) o ≡ thread w) ⊎ ((i ≡ w) × Gives o a j) → LetsGo w o (both i a j b k)
+      go (inl v) = then-owner (next-owner (called s i a j .0) (next-fine s g o f i a j) o (next-fit s g o f i a j) i b k w v)
       go (inr v) = (v .0, inl (v .1))
 
 -- every history
 module _ (s : Sys rtos) (b : Start s) where
-  fine : (past : List (Op rtos)) → Fine (after new s past)
-  fine = always new rtos-new rtos-lawful s b
+  fine : (past : List (Op rtos)) → Fine (after s past)
+  fine = always rtos-lawful s b
 
-  fit : (past : List (Op rtos)) (o : ℕ) → Fit (after new s past) o
+  fit : (past : List (Op rtos)) (o : ℕ) → Fit (after s past) o
   fit [] o = (λ x z. never (sym (ap (λ x. seen x .owner) (b .none o)) ∙ z), subst (λ x. seen x .count ≤ maxCount) (sym (b .none o)) (omega arith))
-  fit (x ∷ past) o = fit-step (after new s past) (fine past) o (fit past o) x (step new (after new s past) x .0) (stepped (after new s past) o x)
+  fit (x ∷ past) o = fit-step (after s past) (fine past) o (fit past o) x (step (after s past) x .0) (stepped (after s past) o x)
 
-  counted : (past : List (Op rtos)) (o : ℕ) → seen (after new s past .slot o) .count ≡ depth s past o
+  counted : (past : List (Op rtos)) (o : ℕ) → seen (after s past .slot o) .count ≡ depth s past o
   counted [] o = ap (λ x. seen x .count) (b .none o)
   counted (x ∷ past) o =
-      count-step (after new s past) (fine past) o (fit past o) x (step new (after new s past) x .0) (stepped (after new s past) o x) (depth s past o) (counted past o)
+      count-step (after s past) (fine past) o (fit past o) x (step (after s past) x .0) (stepped (after s past) o x) (depth s past o) (counted past o)
 
-  apart-always : (past : List (Op rtos)) → Apart (after new s past)
+  apart-always : (past : List (Op rtos)) → Apart (after s past)
   apart-always past o i m h w z =
-      let y : times i (after new s past .queue o) ≡ 0 = unheld i (after new s past .queue o) (fit past o .0 i (ap (λ x. seen x .owner) h ∙ w)) in
-      let v : times i (after new s past .queue o) ≡ on o (waiting o) = fine past .placed o i ∙ ap (on o) z in
+      let y : times i (after s past .queue o) ≡ 0 = unheld i (after s past .queue o) (fit past o .0 i (ap (λ x. seen x .owner) h ∙ w)) in
+      let v : times i (after s past .queue o) ≡ on o (waiting o) = fine past .placed o i ∙ ap (on o) z in
       let u : on o (waiting o) ≡ 1 = rw (eq-eqb o o refl) refl in
       absurd (omega (arith, sym y ∙ v ∙ u))
 
@@ -334,14 +334,14 @@ module _ (s : Sys rtos) (b : Start s) where
         apart = apart-always past;
         locked =
             λ o i m h w. (
-              has-count (m .owner) (m .count) (after new s past .queue o) (fine past .formed o (aMutex m) h) i w,
+              has-count (m .owner) (m .count) (after s past .queue o) (fine past .formed o (aMutex m) h) i w,
               subst (λ x. seen x .count ≤ maxCount) h (fit past o .1),
             );
-        idle = λ o m h w. has-none (m .owner) (m .count) (after new s past .queue o) (fine past .formed o (aMutex m) h) w;
+        idle = λ o m h w. has-none (m .owner) (m .count) (after s past .queue o) (fine past .formed o (aMutex m) h) w;
         owned =
             λ x o i m n h e w v.
-            owner-step (after new s past) (fine past) o (fit past o) x (step new (after new s past) x .0) (stepped (after new s past) o x) i
+            owner-step (after s past) (fine past) o (fit past o) x (step (after s past) x .0) (stepped (after s past) o x) i
             (ap (λ x. seen x .owner) h ∙ w) (λ u. v (sym (ap (λ x. seen x .owner) e) ∙ u));
-        stays = λ x o m h. stays-step (after new s past) (fine past) o (fit past o) x (step new (after new s past) x .0) (stepped (after new s past) o x) m h;
+        stays = λ x o m h. stays-step (after s past) (fine past) o (fit past o) x (step (after s past) x .0) (stepped (after s past) o x) m h;
         depth = λ o m h. sym (ap (λ x. seen x .count) h) ∙ counted past o;
       }

@@ -19,14 +19,14 @@ use Rattle.kind.specs.Verdict.{keep, park, wake, Verdict, deny, allow}
 use Rattle.kind.specs.Kind.{Kind, Lawful}
 use Rattle.kind.specs.Object.{thread, carried}
 use Rattle.kind.proofs.Picks.{left-sub}
-use Rattle.system.specs.System.{State, absent, running, ready, waiting, number, Slot, vacant, object, Sys, Op, invoke, both, dispatch, yield, expire, spawn, create, unless, serve, outcome, verdict, visited, called, dispatched, yielded, expired, spawned, created, free, gone-by, answers, Answer, denied, reply, step, after}
+use Rattle.system.specs.System.{State, absent, running, ready, waiting, number, Slot, vacant, object, Sys, Op, invoke, both, dispatch, yield, expire, spawn, create, unless, serve, outcome, verdict, visited, called, dispatched, yielded, expired, spawned, created, free, gone-by, answers, Answer, denied, reply, step, after, Reply, refuse, paired}
 use Rattle.thread.specs.Code.{einval}
 use Rattle.thread.specs.Priority.{valid}
 use Rattle.system.specs.Rules.{times, on, Fine, Start}
 use Rattle.system.specs.Order.{Before, age, Ordered}
 use Rattle.system.proofs.Times.{times-joined}
 use Rattle.system.proofs.Calls.{all-two, runs, barred, granted, called-fine}
-use Rattle.system.proofs.Steps.{Newly, always}
+use Rattle.system.proofs.Steps.{always}
 
 -- a list in order stays so under another order of its members
 sorted-mono : (R S : ℕ → ℕ → Type 0) (M : ℕ → Type 0) → ((x y : ℕ) → M x → M y → R x y → S x y) → (q : List ℕ) → All M q → Sorted R q → Sorted S q
@@ -70,9 +70,9 @@ pub data Next (o : ℕ) (f : ℕ → State) (q q' : List ℕ) : Type 0 where
   fewer : Sub q' q → Next o f q q'
   more : (p i : ℕ) → ident (entry p i) ≡ i → on o (f i) ≡ 0 → q' ≡ joined (entry p i) q → Next o f q q'
 
-module _ {K : Kind} (new : K .Num → Bool) (s : Sys K) (g : Fine s) (i o : ℕ) (n : K .Num) (h : s .slot o ≡ object n) where
+module _ {K : Kind} (s : Sys K) (g : Fine s) (i o : ℕ) (n : K .Num) (h : s .slot o ≡ object n) where
   by-verdict : (d : Verdict (K .Num) (K .Wish)) → s .state i ≡ running
-      → Next o (s .state) (s .queue o) (unless (carried (thread i (s .prio i) 1) d n (s .queue o) .turn .code) s (serve new s i o d (carried (thread i (s .prio i) 1) d n (s .queue o))) .queue o)
+      → Next o (s .state) (s .queue o) (unless (carried (thread i (s .prio i) 1) d n (s .queue o) .turn .code) s (serve s i o d (carried (thread i (s .prio i) 1) d n (s .queue o))) .queue o)
   by-verdict (deny (negsuc c)) r = fewer (sub-all (s .queue o))
   by-verdict (deny (pos c)) r = rw (eq-eqb o o refl) (fewer (sub-all (s .queue o)))
   by-verdict (allow m keep (negsuc c)) r = fewer (sub-all (s .queue o))
@@ -85,90 +85,90 @@ module _ {K : Kind} (new : K .Num → Bool) (s : Sys K) (g : Fine s) (i o : ℕ)
       there a = let v : running ≡ absent = sym r ∙ a in absurd (let y : _≡_ {A = ℕ} 0 1 = cc in omega arith)
 
       go : (a b : Bool) → holds (ident (entry (s .prio i) i)) (s .queue o) ≡ a → ltb (length (s .queue o)) maxWaiters ≡ b
-          → Next o (s .state) (s .queue o) (unless (carried (thread i (s .prio i) 1) (allow m (park x) c) n (s .queue o) .turn .code) s (serve new s i o (allow m (park x) c) (carried (thread i (s .prio i) 1) (allow m (park x) c) n (s .queue o))) .queue o)
+          → Next o (s .state) (s .queue o) (unless (carried (thread i (s .prio i) 1) (allow m (park x) c) n (s .queue o) .turn .code) s (serve s i o (allow m (park x) c) (carried (thread i (s .prio i) 1) (allow m (park x) c) n (s .queue o))) .queue o)
       go true b y z = rw y (fewer (sub-all (s .queue o)))
       go false true y z = rw (y, z, eq-eqb o o refl) (more (s .prio i) i (ident-entry (s .prio i) i (g .known i there .0)) (rw r refl) refl)
       go false false y z = rw (y, z) (fewer (sub-all (s .queue o)))
 
 -- the object that is called
-called-here : {K : Kind} (new : K .Num → Bool) (s : Sys K) → Fine s → (i o : ℕ) (k : K .Call) → Next o (s .state) (s .queue o) (called new s i o k .0 .queue o)
-called-here {K} new s g i o k = go (s .slot o) refl
+called-here : {K : Kind} (s : Sys K) → Fine s → (i o : ℕ) (k : K .Call) → Next o (s .state) (s .queue o) (called s i o k .0 .queue o)
+called-here {K} s g i o k = go (s .slot o) refl
   where
-    go : (x : Slot (K .Num)) → s .slot o ≡ x → Next o (s .state) (s .queue o) (visited new x s i o k .0 .queue o)
+    go : (x : Slot (K .Num)) → s .slot o ≡ x → Next o (s .state) (s .queue o) (visited x s i o k .0 .queue o)
     go vacant h = fewer (sub-all (s .queue o))
     go (object n) h = by (callerCode (s .prio i) (number (s .state i))) refl
       where
-        by : (z : ℤ) → callerCode (s .prio i) (number (s .state i)) ≡ z → Next o (s .state) (s .queue o) (visited new (object n) s i o k .0 .queue o)
-        by (negsuc c) z = rw (barred new s i o k n (g .formed o n h) c z) (fewer (sub-all (s .queue o)))
-        by (pos c) z = rw (granted new s i o k n (g .formed o n h) c z) (by-verdict new s g i o n h (verdict new s i o k n) (runs (s .prio i) (s .state i) c z))
+        by : (z : ℤ) → callerCode (s .prio i) (number (s .state i)) ≡ z → Next o (s .state) (s .queue o) (visited (object n) s i o k .0 .queue o)
+        by (negsuc c) z = rw (barred s i o k n (g .formed o n h) c z) (fewer (sub-all (s .queue o)))
+        by (pos c) z = rw (granted s i o k n (g .formed o n h) c z) (by-verdict s g i o n h (verdict s i o k n) (runs (s .prio i) (s .state i) c z))
 
 -- the others
-called-there : {K : Kind} (new : K .Num → Bool) (s : Sys K) (i o : ℕ) (k : K .Call) (y : ℕ) → (o ≡ y → ⊥) → called new s i o k .0 .queue y ≡ s .queue y
-called-there {K} new s i o k y e = go (s .slot o)
+called-there : {K : Kind} (s : Sys K) (i o : ℕ) (k : K .Call) (y : ℕ) → (o ≡ y → ⊥) → called s i o k .0 .queue y ≡ s .queue y
+called-there {K} s i o k y e = go (s .slot o)
   where
     either : (z : ℤ) (u : Sys K) → u .queue y ≡ s .queue y → unless z s u .queue y ≡ s .queue y
     either (pos c) u w = w
     either (negsuc c) u w = refl
 
-    go : (x : Slot (K .Num)) → visited new x s i o k .0 .queue y ≡ s .queue y
+    go : (x : Slot (K .Num)) → visited x s i o k .0 .queue y ≡ s .queue y
     go vacant = refl
-    go (object n) = either (outcome new s i o k n .turn .code) (serve new s i o (verdict new s i o k n) (outcome new s i o k n)) (rw (ne-eqb o y e))
+    go (object n) = either (outcome s i o k n .turn .code) (serve s i o (verdict s i o k n) (outcome s i o k n)) (rw (ne-eqb o y e))
 
 -- any step
-module _ {K : Kind} (new : K .Num → Bool) (law : Lawful K) (s : Sys K) (g : Fine s) where
+module _ {K : Kind} (law : Lawful K) (s : Sys K) (g : Fine s) where
   same : (y : ℕ) (q : List ℕ) → q ≡ s .queue y → Next y (s .state) (s .queue y) q
   same y q e = rw e (fewer (sub-all (s .queue y)))
 
-  one-call : (i o : ℕ) (k : K .Call) (y : ℕ) → Next y (s .state) (s .queue y) (called new s i o k .0 .queue y)
+  one-call : (i o : ℕ) (k : K .Call) (y : ℕ) → Next y (s .state) (s .queue y) (called s i o k .0 .queue y)
   one-call i o k y = go (eqb o y) refl
     where
-      go : (b : Bool) → eqb o y ≡ b → Next y (s .state) (s .queue y) (called new s i o k .0 .queue y)
-      go true e = rw (sym (eqb-true o y e)) (called-here new s g i o k)
-      go false e = same y (called new s i o k .0 .queue y) (called-there new s i o k y (eqb-false o y e))
+      go : (b : Bool) → eqb o y ≡ b → Next y (s .state) (s .queue y) (called s i o k .0 .queue y)
+      go true e = rw (sym (eqb-true o y e)) (called-here s g i o k)
+      go false e = same y (called s i o k .0 .queue y) (called-there s i o k y (eqb-false o y e))
 
   -- the queue of b is as it was when the second call comes
   module _ (i a : ℕ) (j : K .Call) (b : ℕ) (k : K .Call) (e : a ≡ b → ⊥) where
     abbrev u : Sys K
-    u = called new s i a j .0
+    u = called s i a j .0
 
     u-fine : Fine u
-    u-fine = called-fine new law s g i a j
+    u-fine = called-fine law s g i a j
 
     moved : (q' : List ℕ) → Next b (u .state) (u .queue b) q' → Next b (s .state) (s .queue b) q'
-    moved q' (fewer t) = fewer (rw (called-there new s i a j b e) at t)
+    moved q' (fewer t) = fewer (rw (called-there s i a j b e) at t)
     moved q' (more p t x y z) =
-        let w : times t (u .queue b) ≡ times t (s .queue b) = ap (times t) (called-there new s i a j b e) in
-        more p t x (sym (g .placed b t) ∙ sym w ∙ u-fine .placed b t ∙ y) (z ∙ rw (called-there new s i a j b e))
+        let w : times t (u .queue b) ≡ times t (s .queue b) = ap (times t) (called-there s i a j b e) in
+        more p t x (sym (g .placed b t) ∙ sym w ∙ u-fine .placed b t ∙ y) (z ∙ rw (called-there s i a j b e))
 
-    two-calls : (y : ℕ) → Next y (s .state) (s .queue y) (called new u i b k .0 .queue y)
+    two-calls : (y : ℕ) → Next y (s .state) (s .queue y) (called u i b k .0 .queue y)
     two-calls y = go (eqb b y) refl
       where
-        go : (c : Bool) → eqb b y ≡ c → Next y (s .state) (s .queue y) (called new u i b k .0 .queue y)
-        go true z = rw (sym (eqb-true b y z)) (moved (called new u i b k .0 .queue b) (called-here new u u-fine i b k))
-        go false z = rw (called-there new u i b k y (eqb-false b y z)) (one-call i a j y)
+        go : (c : Bool) → eqb b y ≡ c → Next y (s .state) (s .queue y) (called u i b k .0 .queue y)
+        go true z = rw (sym (eqb-true b y z)) (moved (called u i b k .0 .queue b) (called-here u u-fine i b k))
+        go false z = rw (called-there u i b k y (eqb-false b y z)) (one-call i a j y)
 
-  pub step-next : (x : Op K) (y : ℕ) → Next y (s .state) (s .queue y) (step new s x .0 .queue y)
+  pub step-next : (x : Op K) (y : ℕ) → Next y (s .state) (s .queue y) (step s x .0 .queue y)
   step-next (invoke i o k) y = one-call i o k y
   step-next (both i a j b k) y = go (eqb a b) refl
     where
-      either : (z : ℤ) → (a ≡ b → ⊥) → Next y (s .state) (s .queue y) (unless z s (called new (called new s i a j .0) i b k .0) .queue y)
+      either : (z : ℤ) → (a ≡ b → ⊥) → Next y (s .state) (s .queue y) (unless z s (called (called s i a j .0) i b k .0) .queue y)
       either (pos c) e = two-calls i a j b k e y
       either (negsuc c) e = same y (s .queue y) refl
 
       go : (c : Bool) → eqb a b ≡ c
-          → Next y (s .state) (s .queue y) (cond {A = Sys K × Answer} c (s, denied einval) (unless (answers new s i a j b k) s (called new (called new s i a j .0) i b k .0), reply (answers new s i a j b k)) .0 .queue y)
+          → Next y (s .state) (s .queue y) (cond {A = Reply K} c (refuse s einval) (paired s i a j b k) .0 .queue y)
       go true z = same y (s .queue y) refl
-      go false z = either (answers new s i a j b k) (eqb-false a b z)
-  step-next (dispatch i) y = same y (dispatched new (s .state i) s i .0 .queue y) (go (s .state i))
+      go false z = either (answers s i a j b k) (eqb-false a b z)
+  step-next (dispatch i) y = same y (dispatched (s .state i) s i .0 .queue y) (go (s .state i))
     where
-      go : (x : State) → dispatched new x s i .0 .queue y ≡ s .queue y
+      go : (x : State) → dispatched x s i .0 .queue y ≡ s .queue y
       go absent = refl
       go running = refl
       go (ready r) = refl
       go (waiting o) = refl
-  step-next (yield i) y = same y (yielded new (s .state i) s i .0 .queue y) (go (s .state i))
+  step-next (yield i) y = same y (yielded (s .state i) s i .0 .queue y) (go (s .state i))
     where
-      go : (x : State) → yielded new x s i .0 .queue y ≡ s .queue y
+      go : (x : State) → yielded x s i .0 .queue y ≡ s .queue y
       go absent = refl
       go running = refl
       go (ready r) = refl
@@ -179,73 +179,73 @@ module _ {K : Kind} (new : K .Num → Bool) (law : Lawful K) (s : Sys K) (g : Fi
       gone o true e = rw (sym (eqb-true o y e)) (fewer (others-sub (of i) (s .queue o)))
       gone o false e = fewer (sub-all (s .queue y))
 
-      go : (x : State) → Next y (s .state) (s .queue y) (expired new x s i .0 .queue y)
+      go : (x : State) → Next y (s .state) (s .queue y) (expired x s i .0 .queue y)
       go absent = same y (s .queue y) refl
       go running = same y (s .queue y) refl
       go (ready r) = same y (s .queue y) refl
       go (waiting o) = gone o (eqb o y) refl
-  step-next (spawn i p) y = same y (spawned new s i p .0 .queue y) (go (gone-by (s .state i)) (ltb i 4294967296) (valid p) refl refl refl)
+  step-next (spawn i p) y = same y (spawned s i p .0 .queue y) (go (gone-by (s .state i)) (ltb i 4294967296) (valid p) refl refl refl)
     where
-      go : (a b c : Bool) → gone-by (s .state i) ≡ a → ltb i 4294967296 ≡ b → valid p ≡ c → spawned new s i p .0 .queue y ≡ s .queue y
+      go : (a b c : Bool) → gone-by (s .state i) ≡ a → ltb i 4294967296 ≡ b → valid p ≡ c → spawned s i p .0 .queue y ≡ s .queue y
       go true true true x w z = rw (x, w, z)
       go true true false x w z = rw (x, w, z)
       go true false c x w z = rw (x, w)
       go false b c x w z = rw x
-  step-next (create o n) y = same y (created new s o n .0 .queue y) (go (free (s .slot o)) (new n) refl refl)
+  step-next (create o n) y = same y (created s o n .0 .queue y) (go (free (s .slot o)) (K .new n) refl refl)
     where
-      go : (a b : Bool) → free (s .slot o) ≡ a → new n ≡ b → created new s o n .0 .queue y ≡ s .queue y
+      go : (a b : Bool) → free (s .slot o) ≡ a → K .new n ≡ b → created s o n .0 .queue y ≡ s .queue y
       go true true x z = rw (x, z)
       go true false x z = rw (x, z)
       go false b x z = rw x
 
 -- every history
-module _ {K : Kind} (new : K .Num → Bool) (made : Newly K new) (law : Lawful K) (s : Sys K) (b : Start s) where
+module _ {K : Kind} (law : Lawful K) (s : Sys K) (b : Start s) where
   -- who waits has waited for a step at least, and who does not, for none
-  age-some : (past : List (Op K)) (o t : ℕ) → 0 < on o (after new s past .state t) → 0 < age new s past o t
+  age-some : (past : List (Op K)) (o t : ℕ) → 0 < on o (after s past .state t) → 0 < age s past o t
   age-some [] o t h = absurd (omega (arith, b .awake o t))
-  age-some (x ∷ past) o t h = rw (lt-ltb 0 (on o (after new s (x ∷ past) .state t)) h) (omega arith)
+  age-some (x ∷ past) o t h = rw (lt-ltb 0 (on o (after s (x ∷ past) .state t)) h) (omega arith)
 
-  age-none : (past : List (Op K)) (o t : ℕ) → on o (after new s past .state t) ≡ 0 → age new s past o t ≡ 0
+  age-none : (past : List (Op K)) (o t : ℕ) → on o (after s past .state t) ≡ 0 → age s past o t ≡ 0
   age-none [] o t h = refl
-  age-none (x ∷ past) o t h = let z : on o (after new s (x ∷ past) .state t) ≤ 0 = omega arith in rw (le-ltb 0 (on o (after new s (x ∷ past) .state t)) z)
+  age-none (x ∷ past) o t h = let z : on o (after s (x ∷ past) .state t) ≤ 0 = omega arith in rw (le-ltb 0 (on o (after s (x ∷ past) .state t)) z)
 
   module _ (x₀ : Op K) (past : List (Op K)) (o : ℕ) where
     abbrev old : Sys K
-    old = after new s past
+    old = after s past
 
     abbrev now : Sys K
-    now = after new s (x₀ ∷ past)
+    now = after s (x₀ ∷ past)
 
-    grown : (t : ℕ) → 0 < times t (now .queue o) → age new s (x₀ ∷ past) o t ≡ suc (age new s past o t)
-    grown t h = rw (lt-ltb 0 (on o (now .state t)) (omega (arith, always new made law s b (x₀ ∷ past) .placed o t)))
+    grown : (t : ℕ) → 0 < times t (now .queue o) → age s (x₀ ∷ past) o t ≡ suc (age s past o t)
+    grown t h = rw (lt-ltb 0 (on o (now .state t)) (omega (arith, always law s b (x₀ ∷ past) .placed o t)))
 
-    older : (q : List ℕ) → All (λ y. 0 < times (ident y) (now .queue o)) q → Sorted (Before (age new s past o)) q → Sorted (Before (age new s (x₀ ∷ past) o)) q
+    older : (q : List ℕ) → All (λ y. 0 < times (ident y) (now .queue o)) q → Sorted (Before (age s past o)) q → Sorted (Before (age s (x₀ ∷ past) o)) q
     older q a c =
-        sorted-mono (Before (age new s past o)) (Before (age new s (x₀ ∷ past) o)) (λ y. 0 < times (ident y) (now .queue o))
+        sorted-mono (Before (age s past o)) (Before (age s (x₀ ∷ past) o)) (λ y. 0 < times (ident y) (now .queue o))
         (λ y z m l r. later y z m l r) q a c
       where
-        later : (y z : ℕ) → 0 < times (ident y) (now .queue o) → 0 < times (ident z) (now .queue o) → Before (age new s past o) y z → Before (age new s (x₀ ∷ past) o) y z
+        later : (y z : ℕ) → 0 < times (ident y) (now .queue o) → 0 < times (ident z) (now .queue o) → Before (age s past o) y z → Before (age s (x₀ ∷ past) o) y z
         later y z m l (inl h) = inl h
         later y z m l (inr h) = inr (h .0, omega (arith, h .1, grown (ident y) m, grown (ident z) l))
 
-    ordered-step : Sorted (Before (age new s past o)) (old .queue o) → Sorted (Before (age new s (x₀ ∷ past) o)) (now .queue o)
-    ordered-step c = go (step-next new law old (always new made law s b past) x₀ o) (members (now .queue o))
+    ordered-step : Sorted (Before (age s past o)) (old .queue o) → Sorted (Before (age s (x₀ ∷ past) o)) (now .queue o)
+    ordered-step c = go (step-next law old (always law s b past) x₀ o) (members (now .queue o))
       where
-        go : Next o (old .state) (old .queue o) (now .queue o) → All (λ y. 0 < times (ident y) (now .queue o)) (now .queue o) → Sorted (Before (age new s (x₀ ∷ past) o)) (now .queue o)
-        go (fewer t) a = older (now .queue o) a (sub-sorted (Before (age new s past o)) t c)
+        go : Next o (old .state) (old .queue o) (now .queue o) → All (λ y. 0 < times (ident y) (now .queue o)) (now .queue o) → Sorted (Before (age s (x₀ ∷ past) o)) (now .queue o)
+        go (fewer t) a = older (now .queue o) a (sub-sorted (Before (age s past o)) t c)
         go (more p i y z e) a =
             let w : ℕ = entry p i in
             let q : List ℕ = old .queue o in
-            let g : Fine old = always new made law s b past in
+            let g : Fine old = always law s b past in
             let j : (t : ℕ) → times t (now .queue o) ≡ cond (eqb i t) (suc (times t q)) (times t q) = λ t. ap (times t) e ∙ times-joined t w q ∙ rw y in
             let here : All (λ x. 0 < times (ident x) (now .queue o)) q =
             all-map (λ x. 0 < times (ident x) q) (λ x. 0 < times (ident x) (now .queue o)) q (λ x h. rw (j (ident x)) (more-or (eqb i (ident x)) (times (ident x) q) h)) (members q) in
             let self : 0 < times i (now .queue o) = rw (j i, eq-eqb i i refl) (omega arith) in
-            let late : All (λ x. age new s (x₀ ∷ past) o (ident w) < age new s (x₀ ∷ past) o (ident x)) q =
-            all-two (λ x. 0 < times (ident x) (now .queue o)) (λ x. 0 < times (ident x) q) (λ x. age new s (x₀ ∷ past) o (ident w) < age new s (x₀ ∷ past) o (ident x)) q
+            let late : All (λ x. age s (x₀ ∷ past) o (ident w) < age s (x₀ ∷ past) o (ident x)) q =
+            all-two (λ x. 0 < times (ident x) (now .queue o)) (λ x. 0 < times (ident x) q) (λ x. age s (x₀ ∷ past) o (ident w) < age s (x₀ ∷ past) o (ident x)) q
             (λ x m k. rw y (omega (arith, grown i self, grown (ident x) m, age-none past o i z, age-some past o (ident x) (omega (arith, g .placed o (ident x)))))) here (members q) in
-            rw e (sorted-joined (age new s (x₀ ∷ past) o) w q (g .queues o .sorted) (older q here c) late)
+            rw e (sorted-joined (age s (x₀ ∷ past) o) w q (g .queues o .sorted) (older q here c) late)
 
-  pub ordered : (past : List (Op K)) → Ordered new s past
+  pub ordered : (past : List (Op K)) → Ordered s past
   ordered [] o = rw (b .empty o) tt
   ordered (x ∷ past) o = ordered-step x past o (ordered past o)

@@ -15,14 +15,14 @@ use Rattle.thread.specs.Priority.{maxPriority, valid}
 use Rattle.wait_queue.specs.Queue.{entry, ident, of, without, Well}
 use Rattle.wait_queue.proofs.Well.{Other, holds-none, well-empty, well-sub}
 use Rattle.kind.specs.Kind.{Kind, Lawful, Rightly}
-use Rattle.system.specs.System.{Answer, done, denied, reply, answers, State, absent, running, ready, waiting, Slot, vacant, object, Sys, Op, invoke, both, dispatch, yield, expire, spawn, create, upd, unless, free, gone-by, called, setState, dispatched, yielded, left, expired, spawned, created, step, after}
+use Rattle.system.specs.System.{Answer, done, denied, reply, answers, State, absent, running, ready, waiting, Slot, vacant, object, Sys, Op, invoke, both, dispatch, yield, expire, spawn, create, upd, unless, free, gone-by, called, setState, dispatched, yielded, left, expired, spawned, created, step, after, Reply, accept, refuse, paired, placed}
 use Rattle.system.specs.Rules.{times, on, Fine, Start}
 use Rattle.system.proofs.Times.{times-without, not-held, all-list, list-all}
 use Rattle.system.proofs.Calls.{called-fine}
 
-module _ {K : Kind} (new : K .Num → Bool) (s : Sys K) (g : Fine s) where
+module _ {K : Kind} (s : Sys K) (g : Fine s) where
   -- a thread changes its state, and waits neither before nor after
-  set-fine : (i : ℕ) (x : State) → ((o : ℕ) → on o (s .state i) ≡ 0) → ((o : ℕ) → on o x ≡ 0) → (s .state i ≡ absent → ⊥) → Fine (setState new s i x)
+  set-fine : (i : ℕ) (x : State) → ((o : ℕ) → on o (s .state i) ≡ 0) → ((o : ℕ) → on o x ≡ 0) → (s .state i ≡ absent → ⊥) → Fine (setState s i x)
   set-fine i x a b n =
       record {
         placed = λ o t. place o t (eqb i t) refl;
@@ -42,14 +42,14 @@ module _ {K : Kind} (new : K .Num → Bool) (s : Sys K) (g : Fine s) where
       there t true e z = rw (sym (eqb-true i t e)) n
       there t false e z = z
 
-  dispatch-fine : (i : ℕ) (x : State) → s .state i ≡ x → Fine (dispatched new x s i .0)
+  dispatch-fine : (i : ℕ) (x : State) → s .state i ≡ x → Fine (dispatched x s i .0)
   dispatch-fine i absent h = g
   dispatch-fine i running h = g
   dispatch-fine i (ready r) h =
       set-fine i running (λ o. rw h refl) (λ o. refl) (λ a. let v : ready r ≡ absent = sym h ∙ a in absurd (let y : _≡_ {A = ℕ} 0 1 = cc in omega arith))
   dispatch-fine i (waiting o) h = g
 
-  yield-fine : (i : ℕ) (x : State) → s .state i ≡ x → Fine (yielded new x s i .0)
+  yield-fine : (i : ℕ) (x : State) → s .state i ≡ x → Fine (yielded x s i .0)
   yield-fine i absent h = g
   yield-fine i running h =
       set-fine i (ready ok) (λ o. rw h refl) (λ o. refl) (λ a. let v : running ≡ absent = sym h ∙ a in absurd (let y : _≡_ {A = ℕ} 0 1 = cc in omega arith))
@@ -71,7 +71,7 @@ module _ {K : Kind} (new : K .Num → Bool) (s : Sys K) (g : Fine s) where
         go [] y c = absurd (omega arith)
         go (x ∷ q) y c = clash y
 
-    leave-fine : Fine (left new s i o)
+    leave-fine : Fine (left s i o)
     leave-fine =
         record {
           placed = λ x t. place x t (eqb o x) (eqb i t) refl refl;
@@ -116,7 +116,7 @@ module _ {K : Kind} (new : K .Num → Bool) (s : Sys K) (g : Fine s) where
         there t true e z = rw (sym (eqb-true i t e)) (λ a. let v : waiting o ≡ absent = sym h ∙ a in absurd (let y : _≡_ {A = ℕ} 0 1 = cc in omega arith))
         there t false e z = z
 
-  expire-fine : Lawful K → (i : ℕ) (x : State) → s .state i ≡ x → Fine (expired new x s i .0)
+  expire-fine : Lawful K → (i : ℕ) (x : State) → s .state i ≡ x → Fine (expired x s i .0)
   expire-fine law i absent h = g
   expire-fine law i running h = g
   expire-fine law i (ready r) h = g
@@ -161,23 +161,23 @@ module _ {K : Kind} (new : K .Num → Bool) (s : Sys K) (g : Fine s) where
         known t true e z = (rw (sym (eqb-true i t e)) small, ltb-true p maxPriority v)
         known t false e z = g .known t z
 
-  spawn-fine : (i p : ℕ) → Fine (spawned new s i p .0)
+  spawn-fine : (i p : ℕ) → Fine (spawned s i p .0)
   spawn-fine i p = go (gone-by (s .state i)) (ltb i 4294967296) (valid p) refl refl refl
     where
-      go : (a b c : Bool) → gone-by (s .state i) ≡ a → ltb i 4294967296 ≡ b → valid p ≡ c → Fine (spawned new s i p .0)
+      go : (a b c : Bool) → gone-by (s .state i) ≡ a → ltb i 4294967296 ≡ b → valid p ≡ c → Fine (spawned s i p .0)
       go true true true x y z = rw (x, y, z) (born i p (nobody i x) (ltb-true i 4294967296 y) z)
       go true true false x y z = rw (x, y, z) g
       go true false c x y z = rw (x, y) g
       go false b c x y z = rw x g
 
   -- an object is made
-  create-fine : ((n : K .Num) → new n ≡ true → K .formed n false ≡ true) → (o : ℕ) (n : K .Num) → Fine (created new s o n .0)
-  create-fine made o n = go (s .slot o) (new n) refl refl
+  create-fine : Lawful K → (o : ℕ) (n : K .Num) → Fine (created s o n .0)
+  create-fine law o n = go (s .slot o) (K .new n) refl refl
     where
       object-is : {k m : K .Num} → object k ≡ object m → k ≡ m
       object-is h = cc
 
-      go : (x : Slot (K .Num)) (b : Bool) → s .slot o ≡ x → new n ≡ b → Fine {K = K} (cond {A = Sys K × Answer} (free x) (cond b (record { prio = s .prio; state = s .state; wish = s .wish; slot = upd (s .slot) o (object n); queue = s .queue }, done ok) (s, denied einval)) (s, denied einval) .0)
+      go : (x : Slot (K .Num)) (b : Bool) → s .slot o ≡ x → K .new n ≡ b → Fine {K = K} (cond {A = Reply K} (free x) (cond b (accept (placed s o n) ok) (refuse s einval)) (refuse s einval) .0)
       go (object m) b h z = g
       go vacant false h z = g
       go vacant true h z =
@@ -196,7 +196,7 @@ module _ {K : Kind} (new : K .Num → Bool) (s : Sys K) (g : Fine s) where
           keep x m false u y = g .kept x m y
 
           form : (x : ℕ) (m : K .Num) (a : Bool) → eqb o x ≡ a → cond a (object n) (s .slot x) ≡ object m → K .formed m (any (s .queue x)) ≡ true
-          form x m true u y = rw (sym (eqb-true o x u), g .bare o h, sym (object-is y)) (made n z)
+          form x m true u y = rw (sym (eqb-true o x u), g .bare o h, sym (object-is y)) (law .made n z)
           form x m false u y = g .formed x m y
 
           none : (x : ℕ) (a : Bool) → eqb o x ≡ a → cond a (object n) (s .slot x) ≡ vacant → s .queue x ≡ []
@@ -204,30 +204,27 @@ module _ {K : Kind} (new : K .Num → Bool) (s : Sys K) (g : Fine s) where
           none x false u y = g .bare x y
 
 -- every operation
-pub record Newly (K : Kind) (new : K .Num → Bool) : Type 0 where
-  pub formed : (n : K .Num) → new n ≡ true → K .formed n false ≡ true
-
-module _ {K : Kind} (new : K .Num → Bool) (made : Newly K new) (law : Lawful K) where
-  pub step-fine : (s : Sys K) (x : Op K) → Fine s → Fine (step new s x .0)
-  step-fine s (invoke i o k) g = called-fine new law s g i o k
+module _ {K : Kind} (law : Lawful K) where
+  pub step-fine : (s : Sys K) (x : Op K) → Fine s → Fine (step s x .0)
+  step-fine s (invoke i o k) g = called-fine law s g i o k
   step-fine s (both i a j b k) g = go (eqb a b)
     where
-      u : Fine (called new s i a j .0)
-      u = called-fine new law s g i a j
+      u : Fine (called s i a j .0)
+      u = called-fine law s g i a j
 
-      either : (z : ℤ) → Fine (unless z s (called new (called new s i a j .0) i b k .0))
-      either (pos c) = called-fine new law (called new s i a j .0) u i b k
+      either : (z : ℤ) → Fine (unless z s (called (called s i a j .0) i b k .0))
+      either (pos c) = called-fine law (called s i a j .0) u i b k
       either (negsuc c) = g
 
       go : (c : Bool)
-          → Fine (cond {A = Sys K × Answer} c (s, denied einval) (unless (answers new s i a j b k) s (called new (called new s i a j .0) i b k .0), reply (answers new s i a j b k)) .0)
+          → Fine (cond {A = Reply K} c (refuse s einval) (paired s i a j b k) .0)
       go true = g
-      go false = either (answers new s i a j b k)
-  step-fine s (dispatch i) g = dispatch-fine new s g i (s .state i) refl
-  step-fine s (yield i) g = yield-fine new s g i (s .state i) refl
-  step-fine s (expire i) g = expire-fine new s g law i (s .state i) refl
-  step-fine s (spawn i p) g = spawn-fine new s g i p
-  step-fine s (create o n) g = create-fine new s g (made .formed) o n
+      go false = either (answers s i a j b k)
+  step-fine s (dispatch i) g = dispatch-fine s g i (s .state i) refl
+  step-fine s (yield i) g = yield-fine s g i (s .state i) refl
+  step-fine s (expire i) g = expire-fine s g law i (s .state i) refl
+  step-fine s (spawn i p) g = spawn-fine s g i p
+  step-fine s (create o n) g = create-fine s g law o n
 
   start-fine : (s : Sys K) → Start s → Fine s
   start-fine s b =
@@ -242,6 +239,6 @@ module _ {K : Kind} (new : K .Num → Bool) (made : Newly K new) (law : Lawful K
       }
 
   -- every history
-  pub always : (s : Sys K) → Start s → (past : List (Op K)) → Fine (after new s past)
+  pub always : (s : Sys K) → Start s → (past : List (Op K)) → Fine (after s past)
   always s b [] = start-fine s b
-  always s b (x ∷ past) = step-fine (after new s past) x (always s b past)
+  always s b (x ∷ past) = step-fine (after s past) x (always s b past)

@@ -1,24 +1,18 @@
 -- A sum of lawful kinds is a lawful kind. Assumes nothing.
-use mathlib.Core.Path.{_≡_, refl, sym}
-use mathlib.Core.Bool.{Bool, true, false, cond}
+use mathlib.Core.Path.{_≡_, ap}
+use mathlib.Core.Bool.{true, false}
 use mathlib.Core.Logic.{_⊎_, inl, inr}
 use mathlib.Core.List.{List}
 use Prim.Native.Nat.{ℕ}
-use lib.Dec.{eqb}
 use Rattle.seq.specs.List.{any}
-use Rattle.seq.proofs.Order.{clash}
 use Rattle.kind.specs.Verdict.{keep, park, wake, Verdict, deny, allow}
-use Rattle.kind.specs.Kind.{Lawful, Rightly, Sound, Right}
+use Rattle.kind.specs.Kind.{Lawful, Rightly, Sound, Right, Booked}
 use Rattle.sem.proofs.Law.{sem-lawful}
-use Rattle.mutex.specs.Mutex.{held}
-use Rattle.mutex.specs.Mutex as mutex
 use Rattle.mutex.proofs.Law.{mutex-lawful}
 use Rattle.condvar.proofs.Law.{condvar-lawful}
 use Rattle.futex.proofs.Law.{futex-lawful}
-use Rattle.sem.specs.Sem as sem
-use Rattle.system.specs.Sum.{Member, _⊕_, mapped, onLeft, onRight}
-use Rattle.system.specs.Rtos.{sems, mutexes, condvars, futexes, rtos, small, new}
-use Rattle.system.proofs.Steps.{Newly}
+use Rattle.system.specs.Sum.{Member, _⊕_, mapped, balance, onLeft, onRight}
+use Rattle.system.specs.Rtos.{sems, mutexes, condvars, futexes, rtos}
 
 module _ (A B : Member) (a : Lawful (A .kind)) (b : Lawful (B .kind)) where
   sound-left : (q : List ℕ) (d : Verdict (A .kind .Num) (A .kind .Wish)) → Sound (A .kind) q d → Sound ((A ⊕ B) .kind) q (mapped inl inl d)
@@ -65,29 +59,35 @@ module _ (A B : Member) (a : Lawful (A .kind)) (b : Lawful (B .kind)) where
   fewer (inl m) f = a .fewer m f
   fewer (inr n) f = b .fewer n f
 
+  made : (n : A .kind .Num ⊎ B .kind .Num) → (A ⊕ B) .kind .new n ≡ true → (A ⊕ B) .kind .formed n false ≡ true
+  made (inl m) f = a .made m f
+  made (inr n) f = b .made n f
+
+  booked-left : (n : A .kind .Num) (q : List ℕ) (w : ℕ) (k : A .kind .Call) (d : Verdict (A .kind .Num) (A .kind .Wish)) → Booked (A .kind) n q w k d
+      → Booked ((A ⊕ B) .kind) (inl n) q w (inl k) (mapped inl inl d)
+  booked-left n q w k (deny r) s = tt
+  booked-left n q w k (allow m keep r) s = ap (balance inl) s
+  booked-left n q w k (allow m (park x) r) s = ap (balance inl) s
+  booked-left n q w k (allow m (wake p f) r) s = ap (balance inl) s
+
+  booked-right : (n : B .kind .Num) (q : List ℕ) (w : ℕ) (k : B .kind .Call) (d : Verdict (B .kind .Num) (B .kind .Wish)) → Booked (B .kind) n q w k d
+      → Booked ((A ⊕ B) .kind) (inr n) q w (inr k) (mapped inr inr d)
+  booked-right n q w k (deny r) s = tt
+  booked-right n q w k (allow m keep r) s = ap (balance inr) s
+  booked-right n q w k (allow m (park x) r) s = ap (balance inr) s
+  booked-right n q w k (allow m (wake p f) r) s = ap (balance inr) s
+
+  booked : (n : A .kind .Num ⊎ B .kind .Num) (v : ℕ → A .kind .Wish ⊎ B .kind .Wish) (q : List ℕ) (w : ℕ) (k : A .kind .Call ⊎ B .kind .Call)
+      → (A ⊕ B) .kind .formed n (any q) ≡ true → Booked ((A ⊕ B) .kind) n q w k ((A ⊕ B) .kind .decide n v q w k)
+  booked (inl m) v q w (inl k) f = booked-left m q w k (A .kind .decide m (λ t. onLeft (A .idle) (v t)) q w k) (a .booked m (λ t. onLeft (A .idle) (v t)) q w k f)
+  booked (inl m) v q w (inr k) f = tt
+  booked (inr n) v q w (inl k) f = tt
+  booked (inr n) v q w (inr k) f = booked-right n q w k (B .kind .decide n (λ t. onRight (B .idle) (v t)) q w k) (b .booked n (λ t. onRight (B .idle) (v t)) q w k f)
+
   pub sum-lawful : Lawful ((A ⊕ B) .kind)
-  sum-lawful = record { sound = sound; right = right; fewer = fewer }
+  sum-lawful = record { sound = sound; right = right; fewer = fewer; made = made; booked = booked }
 
 pub rtos-lawful : Lawful rtos
 rtos-lawful =
     sum-lawful sems (mutexes ⊕ condvars ⊕ futexes) sem-lawful
     (sum-lawful mutexes (condvars ⊕ futexes) mutex-lawful (sum-lawful condvars futexes condvar-lawful futex-lawful))
-
--- what can be made is as it should be
-pub rtos-new : Newly rtos new
-rtos-new = record { formed = made }
-  where
-    made : (n : rtos .Num) → new n ≡ true → rtos .formed n false ≡ true
-    made (inl s) h = go (small (s .limit)) h
-      where
-        go : (b : Bool) → cond b (sem.formed s false) false ≡ true → sem.formed s false ≡ true
-        go true z = z
-        go false z = clash (sym z)
-    made (inr (inl m)) h = go (held (m .owner)) (eqb (m .count) 0) refl refl h
-      where
-        go : (a b : Bool) → held (m .owner) ≡ a → eqb (m .count) 0 ≡ b → cond a false b ≡ true → mutex.formed m false ≡ true
-        go true b x y z = clash (sym z)
-        go false true x y z = rw (x, y)
-        go false false x y z = clash (sym z)
-    made (inr (inr (inl c))) h = refl
-    made (inr (inr (inr f))) h = refl

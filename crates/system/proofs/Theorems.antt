@@ -22,10 +22,10 @@ use Rattle.condvar.specs.Condvar.{signal, broadcast, wait}
 use Rattle.futex.specs.Futex.{wakeOne, wakeAll}
 use Rattle.system.specs.System.{object, Sys, Op, after}
 use Rattle.system.specs.Rules.{Fine, Start}
-use Rattle.system.specs.Rtos.{rtos, new, aSem, aMutex, aCondvar, aFutex, semCall, mutexCall, condvarCall, futexCall}
+use Rattle.system.specs.Rtos.{rtos, aSem, aMutex, aCondvar, aFutex, semCall, mutexCall, condvarCall, futexCall}
 use Rattle.system.specs.Theorems.{Idle, First, Counted, Everybody, Theorems}
 use Rattle.system.proofs.Steps.{always}
-use Rattle.system.proofs.Sum.{rtos-lawful, rtos-new}
+use Rattle.system.proofs.Sum.{rtos-lawful}
 use Rattle.system.proofs.Orders.{ordered}
 use Rattle.system.proofs.Wakes.{answered, served, wakes-first, wakes-all}
 use Rattle.system.proofs.Waits.{wakes-waits, waits-alone}
@@ -45,10 +45,10 @@ idle s g =
 
 module _ (s : Sys rtos) (b : Start s) (past : List (Op rtos)) where
   abbrev u : Sys rtos
-  u = after new s past
+  u = after s past
 
   fine : Fine u
-  fine = always new rtos-new rtos-lawful s b past
+  fine = always rtos-lawful s b past
 
   -- no object is a mutex and a condition variable
   two-kinds : {a c : ℕ} {m : Mutex} → u .slot a ≡ object (aMutex m) → u .slot c ≡ object aCondvar → a ≡ c → ⊥
@@ -59,21 +59,21 @@ module _ (s : Sys rtos) (b : Start s) (past : List (Op rtos)) where
   first : First s past
   first =
       record {
-        give = λ i o x q n h r e. wakes-first new rtos-new rtos-lawful s b past o i (semCall give) (aSem n) h r (aSem n) (λ t. ok) 0 x q e (rw e);
+        give = λ i o x q n h r e. wakes-first rtos-lawful s b past o i (semCall give) (aSem n) h r (aSem n) (λ t. ok) 0 x q e (rw e);
         unlock =
             λ i o x q h r e. (
-              wakes-first new rtos-new rtos-lawful s b past o i (mutexCall unlock) (aMutex (record { owner = thread i; count = 1 })) h r (aMutex (taken (ident x))) (λ t. ok) 2 x q e (rw (eq-eqb i i refl, e)),
-              rw (served new u fine i o (mutexCall unlock) (aMutex (record { owner = thread i; count = 1 })) h r (allow (aMutex (taken (ident x))) (wake (upTo 1) (λ t. ok)) (pos 2)) 2 (rw (eq-eqb i i refl, e)) refl, eq-eqb o o refl) refl,
+              wakes-first rtos-lawful s b past o i (mutexCall unlock) (aMutex (record { owner = thread i; count = 1 })) h r (aMutex (taken (ident x))) (λ t. ok) 2 x q e (rw (eq-eqb i i refl, e)),
+              rw (served u fine i o (mutexCall unlock) (aMutex (record { owner = thread i; count = 1 })) h r (allow (aMutex (taken (ident x))) (wake (upTo 1) (λ t. ok)) (pos 2)) 2 (rw (eq-eqb i i refl, e)) refl, eq-eqb o o refl) refl,
             );
-        signal = λ i o x q h r e. wakes-first new rtos-new rtos-lawful s b past o i (condvarCall signal) aCondvar h r aCondvar (λ t. ok) 1 x q e (rw e);
-        wake = λ i o x q f h r e. wakes-first new rtos-new rtos-lawful s b past o i (futexCall wakeOne) (aFutex f) h r (aFutex f) (λ t. ok) 1 x q e (rw e);
+        signal = λ i o x q h r e. wakes-first rtos-lawful s b past o i (condvarCall signal) aCondvar h r aCondvar (λ t. ok) 1 x q e (rw e);
+        wake = λ i o x q f h r e. wakes-first rtos-lawful s b past o i (futexCall wakeOne) (aFutex f) h r (aFutex f) (λ t. ok) 1 x q e (rw e);
         wait =
             λ i a c x q h g r e l.
-            wakes-waits new rtos-new rtos-lawful s b past i a (mutexCall release) (aMutex (record { owner = thread i; count = 1 })) (aMutex (taken (ident x))) c (condvarCall wait) aCondvar (inr (inr (inl tt))) waits 2 (λ v. refl) h g (two-kinds h g) r l
+            wakes-waits rtos-lawful s b past i a (mutexCall release) (aMutex (record { owner = thread i; count = 1 })) (aMutex (taken (ident x))) c (condvarCall wait) aCondvar (inr (inr (inl tt))) waits 2 (λ v. refl) h g (two-kinds h g) r l
             (λ t. ok) x q e (rw (eq-eqb i i refl, e));
         waitAlone =
             λ i a c h g r e l.
-            waits-alone new rtos-new rtos-lawful s b past i a (mutexCall release) (aMutex (record { owner = thread i; count = 1 })) (aMutex free) c (condvarCall wait) aCondvar (inr (inr (inl tt))) waits 1 (λ v. refl) h g (two-kinds h g) r l
+            waits-alone rtos-lawful s b past i a (mutexCall release) (aMutex (record { owner = thread i; count = 1 })) (aMutex free) c (condvarCall wait) aCondvar (inr (inr (inl tt))) waits 1 (λ v. refl) h g (two-kinds h g) r l
             (rw (eq-eqb i i refl, e));
       }
 
@@ -82,13 +82,13 @@ module _ (s : Sys rtos) (b : Start s) (past : List (Op rtos)) where
       record {
         raised =
             λ i o n h r e l.
-            rw (served new u fine i o (semCall give) (aSem n) h r (allow (aSem (counting (suc (n .count)) n)) keep incremented) 1 (rw (e, lt-ltb (n .count) (n .limit) l)) refl, eq-eqb o o refl) refl;
+            rw (served u fine i o (semCall give) (aSem n) h r (allow (aSem (counting (suc (n .count)) n)) keep incremented) 1 (rw (e, lt-ltb (n .count) (n .limit) l)) refl, eq-eqb o o refl) refl;
         full =
             λ i o n h r e l.
-            rw (served new u fine i o (semCall give) (aSem n) h r (allow (aSem n) keep saturated) 2 (rw (e, le-ltb (n .count) (n .limit) l)) refl, eq-eqb o o refl) refl;
+            rw (served u fine i o (semCall give) (aSem n) h r (allow (aSem n) keep saturated) 2 (rw (e, le-ltb (n .count) (n .limit) l)) refl, eq-eqb o o refl) refl;
         passed =
             λ i o x q n h r e.
-            rw (served new u fine i o (semCall give) (aSem n) h r (allow (aSem n) (wake (upTo 1) (λ t. ok)) woke) 0 (rw e) refl, eq-eqb o o refl) refl;
+            rw (served u fine i o (semCall give) (aSem n) h r (allow (aSem n) (wake (upTo 1) (λ t. ok)) woke) 0 (rw e) refl, eq-eqb o o refl) refl;
       }
 
   everyone : Everybody s past
@@ -96,18 +96,18 @@ module _ (s : Sys rtos) (b : Start s) (past : List (Op rtos)) where
       record {
         reset =
             λ i o n h r. (
-              wakes-all new rtos-new rtos-lawful s b past o i (semCall reset) (aSem n) h r (aSem (counting 0 n)) (λ t. eagain) (length (u .queue o)) (rw (length-map (u .queue o) ident)),
-              answered new u fine i o (semCall reset) (aSem n) h r (allow (aSem (counting 0 n)) (wake everybody (λ t. eagain)) (pos (length (u .queue o)))) (rw (length-map (u .queue o) ident)),
+              wakes-all rtos-lawful s b past o i (semCall reset) (aSem n) h r (aSem (counting 0 n)) (λ t. eagain) (length (u .queue o)) (rw (length-map (u .queue o) ident)),
+              answered u fine i o (semCall reset) (aSem n) h r (allow (aSem (counting 0 n)) (wake everybody (λ t. eagain)) (pos (length (u .queue o)))) (rw (length-map (u .queue o) ident)),
             );
         broadcast =
             λ i o h r. (
-              wakes-all new rtos-new rtos-lawful s b past o i (condvarCall broadcast) aCondvar h r aCondvar (λ t. ok) (length (u .queue o)) (rw (length-map (u .queue o) ident)),
-              answered new u fine i o (condvarCall broadcast) aCondvar h r (allow aCondvar (wake everybody (λ t. ok)) (pos (length (u .queue o)))) (rw (length-map (u .queue o) ident)),
+              wakes-all rtos-lawful s b past o i (condvarCall broadcast) aCondvar h r aCondvar (λ t. ok) (length (u .queue o)) (rw (length-map (u .queue o) ident)),
+              answered u fine i o (condvarCall broadcast) aCondvar h r (allow aCondvar (wake everybody (λ t. ok)) (pos (length (u .queue o)))) (rw (length-map (u .queue o) ident)),
             );
         wake =
             λ i o f h r. (
-              wakes-all new rtos-new rtos-lawful s b past o i (futexCall wakeAll) (aFutex f) h r (aFutex f) (λ t. ok) (length (u .queue o)) (rw (length-map (u .queue o) ident)),
-              answered new u fine i o (futexCall wakeAll) (aFutex f) h r (allow (aFutex f) (wake everybody (λ t. ok)) (pos (length (u .queue o)))) (rw (length-map (u .queue o) ident)),
+              wakes-all rtos-lawful s b past o i (futexCall wakeAll) (aFutex f) h r (aFutex f) (λ t. ok) (length (u .queue o)) (rw (length-map (u .queue o) ident)),
+              answered u fine i o (futexCall wakeAll) (aFutex f) h r (allow (aFutex f) (wake everybody (λ t. ok)) (pos (length (u .queue o)))) (rw (length-map (u .queue o) ident)),
             );
       }
 
@@ -117,11 +117,11 @@ module _ (s : Sys rtos) (b : Start s) (past : List (Op rtos)) where
         placed = fine .placed;
         kept = fine .kept;
         idle = idle u fine;
-        ordered = ordered new rtos-new rtos-lawful s b past;
+        ordered = ordered rtos-lawful s b past;
         first = first;
-        life = λ x t. lives new rtos-lawful u fine t x;
+        life = λ x t. lives rtos-lawful u fine t x;
         counted = counted;
         mutexes = mutexes-always s b past;
-        refuses = refuses new u;
+        refuses = refuses u;
         everybody = everyone;
       }

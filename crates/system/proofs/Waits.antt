@@ -17,35 +17,35 @@ use Rattle.system.specs.Rules.{Fine, Start}
 use Rattle.system.specs.Order.{Only, Wakes, Waits}
 use Rattle.system.proofs.Times.{not-held, upd-off}
 use Rattle.system.proofs.Calls.{called-fine}
-use Rattle.system.proofs.Steps.{Newly, always}
+use Rattle.system.proofs.Steps.{always}
 use Rattle.system.proofs.Wakes.{there, served, answered, leads}
 
-module _ {K : Kind} (new : K .Num → Bool) (u : Sys K) (i : ℕ) where
+module _ {K : Kind} (u : Sys K) (i : ℕ) where
   -- what a call of the thread i leaves, by the verdict d of the object a, which has the numbers m
   abbrev outcome-of : ℕ → K .Num → Verdict (K .Num) (K .Wish) → Out (K .Num)
   outcome-of a m d = carried (thread i (u .prio i) 1) d m (u .queue a)
 
   abbrev between : ℕ → K .Num → Verdict (K .Num) (K .Wish) → Sys K
-  between a m d = serve new u i a d (outcome-of a m d)
+  between a m d = serve u i a d (outcome-of a m d)
 
   -- the object b, which has the numbers n, when the thread i has joined its queue
   abbrev seated : ℕ → K .Num → Out (K .Num)
   seated b n = record { num = n; turn = record { code = pos 1; queue = joined (entry (u .prio i) i) (u .queue b); woken = [] } }
 
 -- a call of a by a thread that runs on, and a call of b by which it waits there, are done both
-module _ {K : Kind} (new : K .Num → Bool) (law : Lawful K) (u : Sys K) (g : Fine u) (i a : ℕ) (j : K .Call) (m : K .Num) (ha : u .slot a ≡ object m)
+module _ {K : Kind} (law : Lawful K) (u : Sys K) (g : Fine u) (i a : ℕ) (j : K .Call) (m : K .Num) (ha : u .slot a ≡ object m)
     (b : ℕ) (k : K .Call) (n : K .Num) (hb : u .slot b ≡ object n) (apart : a ≡ b → ⊥) (r : u .state i ≡ running)
-    (d : Verdict (K .Num) (K .Wish)) (c : ℕ) (da : verdict new u i a j m ≡ d) (ca : outcome-of new u i a m d .turn .code ≡ pos c) where
+    (d : Verdict (K .Num) (K .Wish)) (c : ℕ) (da : verdict u i a j m ≡ d) (ca : outcome-of u i a m d .turn .code ≡ pos c) where
   abbrev v : Sys K
-  v = between new u i a m d
+  v = between u i a m d
 
-  first-served : called new u i a j .0 ≡ v
-  first-served = served new u g i a j m ha r d c da ca
+  first-served : called u i a j .0 ≡ v
+  first-served = served u g i a j m ha r d c da ca
 
   v-fine : Fine v
-  v-fine = subst Fine first-served (called-fine new law u g i a j)
+  v-fine = subst Fine first-served (called-fine law u g i a j)
 
-  module _ (x : K .Wish) (z : ℤ) (db : verdict new v i b k n ≡ allow n (park x) z) (rb : v .state i ≡ running) (few : length (u .queue b) < maxWaiters) where
+  module _ (x : K .Wish) (z : ℤ) (db : verdict v i b k n ≡ allow n (park x) z) (rb : v .state i ≡ running) (few : length (u .queue b) < maxWaiters) where
     slot-b : v .slot b ≡ object n
     slot-b = upd-off (u .slot) a _ b apart ∙ hb
 
@@ -53,64 +53,64 @@ module _ {K : Kind} (new : K .Num → Bool) (law : Lawful K) (u : Sys K) (g : Fi
     queue-b = upd-off (u .queue) a _ b apart
 
     small : i < 4294967296
-    small = g .known i (there new u g i a j m ha r) .0
+    small = g .known i (there u g i a j m ha r) .0
 
-    room : carried (thread i (u .prio i) 1) (allow n (park x) z) n (v .queue b) ≡ seated new u i b n
+    room : carried (thread i (u .prio i) 1) (allow n (park x) z) n (v .queue b) ≡ seated u i b n
     room =
         let y : holds i (u .queue b) ≡ false = not-held i (u .queue b) (g .placed b i ∙ rw r) in
         rw (queue-b, ident-entry (u .prio i) i small, y, lt-ltb (length (u .queue b)) maxWaiters few)
 
-    second-served : called new v i b k .0 ≡ serve new v i b (allow n (park x) z) (seated new u i b n)
+    second-served : called v i b k .0 ≡ serve v i b (allow n (park x) z) (seated u i b n)
     second-served =
-        served new v v-fine i b k n slot-b rb (allow n (park x) z) 1 db (ap (λ (y : Out (K .Num)). y .turn .code) room)
-        ∙ ap (serve new v i b (allow n (park x) z)) room
+        served v v-fine i b k n slot-b rb (allow n (park x) z) 1 db (ap (λ (y : Out (K .Num)). y .turn .code) room)
+        ∙ ap (serve v i b (allow n (park x) z)) room
 
-    pub both-served : step new u (both i a j b k) .0 ≡ serve new v i b (allow n (park x) z) (seated new u i b n)
+    pub both-served : step u (both i a j b k) .0 ≡ serve v i b (allow n (park x) z) (seated u i b n)
     both-served =
-        let e : called new u i a j .1 ≡ pos c = answered new u g i a j m ha r d da ∙ ca in
-        let f : called new v i b k .1 ≡ pos 1 = answered new v v-fine i b k n slot-b rb (allow n (park x) z) db ∙ ap (λ (y : Out (K .Num)). y .turn .code) room in
+        let e : called u i a j .1 ≡ pos c = answered u g i a j m ha r d da ∙ ca in
+        let f : called v i b k .1 ≡ pos 1 = answered v v-fine i b k n slot-b rb (allow n (park x) z) db ∙ ap (λ (y : Out (K .Num)). y .turn .code) room in
         rw (ne-eqb a b apart, e, first-served, f, second-served)
 
 -- the thread i, which runs, calls j of a and then waits on b
-module _ {K : Kind} (new : K .Num → Bool) (made : Newly K new) (law : Lawful K) (s : Sys K) (st : Start s) (past : List (Op K)) (i a : ℕ) (j : K .Call) (m m' : K .Num)
-    (b : ℕ) (k : K .Call) (n : K .Num) (w : K .Wish) (z : ℤ) (c : ℕ) (db : (v : Sys K) → verdict new v i b k n ≡ allow n (park w) z)
-    (ha : after new s past .slot a ≡ object m) (hb : after new s past .slot b ≡ object n) (apart : a ≡ b → ⊥)
-    (r : after new s past .state i ≡ running) (few : length (after new s past .queue b) < maxWaiters) where
+module _ {K : Kind} (law : Lawful K) (s : Sys K) (st : Start s) (past : List (Op K)) (i a : ℕ) (j : K .Call) (m m' : K .Num)
+    (b : ℕ) (k : K .Call) (n : K .Num) (w : K .Wish) (z : ℤ) (c : ℕ) (db : (v : Sys K) → verdict v i b k n ≡ allow n (park w) z)
+    (ha : after s past .slot a ≡ object m) (hb : after s past .slot b ≡ object n) (apart : a ≡ b → ⊥)
+    (r : after s past .state i ≡ running) (few : length (after s past .queue b) < maxWaiters) where
   abbrev u : Sys K
-  u = after new s past
+  u = after s past
 
   abbrev y : Op K
   y = both i a j b k
 
   fine : Fine u
-  fine = always new made law s st past
+  fine = always law s st past
 
   -- what is left, by the verdict of a
-  module _ (d : Verdict (K .Num) (K .Wish)) (da : verdict new u i a j m ≡ d) (ca : outcome-of new u i a m d .turn .code ≡ pos c)
-      (rb : between new u i a m d .state i ≡ running) where
-    leaves : after new s (y ∷ past) ≡ serve new (between new u i a m d) i b (allow n (park w) z) (seated new u i b n)
-    leaves = both-served new law u fine i a j m ha b k n hb apart r d c da ca w z (db (between new u i a m d)) rb few
+  module _ (d : Verdict (K .Num) (K .Wish)) (da : verdict u i a j m ≡ d) (ca : outcome-of u i a m d .turn .code ≡ pos c)
+      (rb : between u i a m d .state i ≡ running) where
+    leaves : after s (y ∷ past) ≡ serve (between u i a m d) i b (allow n (park w) z) (seated u i b n)
+    leaves = both-served law u fine i a j m ha b k n hb apart r d c da ca w z (db (between u i a m d)) rb few
 
-    its-wait : Waits new s past y i b
+    its-wait : Waits s past y i b
     its-wait = record { waits = rw (leaves, eq-eqb i i refl); place = rw (leaves, eq-eqb b b refl) }
 
-    its-slot : after new s (y ∷ past) .slot a ≡ object (outcome-of new u i a m d .num)
+    its-slot : after s (y ∷ past) .slot a ≡ object (outcome-of u i a m d .num)
     its-slot = rw (leaves, ne-eqb b a (λ e. apart (sym e)), eq-eqb a a refl)
 
-    its-queue : after new s (y ∷ past) .queue a ≡ outcome-of new u i a m d .turn .queue
+    its-queue : after s (y ∷ past) .queue a ≡ outcome-of u i a m d .turn .queue
     its-queue = rw (leaves, ne-eqb b a (λ e. apart (sym e)), eq-eqb a a refl)
 
-    the-others : (t : ℕ) → (i ≡ t → ⊥) → after new s (y ∷ past) .state t ≡ between new u i a m d .state t
+    the-others : (t : ℕ) → (i ≡ t → ⊥) → after s (y ∷ past) .state t ≡ between u i a m d .state t
     the-others t e = rw (leaves, ne-eqb i t e)
 
   -- a wakes the first
-  pub wakes-waits : (f : ℕ → ℤ) (x : ℕ) (q : List ℕ) → u .queue a ≡ x ∷ q → verdict new u i a j m ≡ allow m' (wake (upTo 1) f) (pos c)
-      → Wakes new s past y a (f (ident x)) x q (i ∷ []) × Waits new s past y i b × (after new s (y ∷ past) .slot a ≡ object m')
+  pub wakes-waits : (f : ℕ → ℤ) (x : ℕ) (q : List ℕ) → u .queue a ≡ x ∷ q → verdict u i a j m ≡ allow m' (wake (upTo 1) f) (pos c)
+      → Wakes s past y a (f (ident x)) x q (i ∷ []) × Waits s past y i b × (after s (y ∷ past) .slot a ≡ object m')
   wakes-waits f x q e da =
-      let h = leads new made law s st past a x q e in
+      let h = leads law s st past a x q e in
       let off : ident x ≡ i → ⊥ = λ v. let g : running ≡ waiting a = sym r ∙ sym (ap (u .state) v) ∙ h .0 in absurd (let y : _≡_ {A = ℕ} 0 1 = cc in omega arith) in
       let d : Verdict (K .Num) (K .Wish) = allow m' (wake (upTo 1) f) (pos c) in
-      let rb : between new u i a m d .state i ≡ running = rw (e, ne-eqb (ident x) i off) r in (
+      let rb : between u i a m d .state i ≡ running = rw (e, ne-eqb (ident x) i off) r in (
         record {
           waited = h .0;
           best = h .1;
@@ -123,5 +123,5 @@ module _ {K : Kind} (new : K .Num → Bool) (made : Newly K new) (law : Lawful K
       )
 
   -- a wakes nobody
-  pub waits-alone : verdict new u i a j m ≡ allow m' keep (pos c) → Only new s past y (i ∷ []) × Waits new s past y i b × (after new s (y ∷ past) .slot a ≡ object m')
+  pub waits-alone : verdict u i a j m ≡ allow m' keep (pos c) → Only s past y (i ∷ []) × Waits s past y i b × (after s (y ∷ past) .slot a ≡ object m')
   waits-alone da = let d : Verdict (K .Num) (K .Wish) = allow m' keep (pos c) in (λ t n. the-others d da refl r t (n .0), its-wait d da refl r, its-slot d da refl r)

@@ -18,10 +18,10 @@ use Rattle.system.specs.Rules.{times, on, Fine, Start}
 use Rattle.system.specs.Order.{Before, age, Wakes, WakesAll}
 use Rattle.system.proofs.Times.{held, unheld, on-is}
 use Rattle.system.proofs.Calls.{granted}
-use Rattle.system.proofs.Steps.{Newly, always}
+use Rattle.system.proofs.Steps.{always}
 use Rattle.system.proofs.Orders.{ordered}
 
-module _ {K : Kind} (new : K .Num → Bool) (u : Sys K) (g : Fine u) (i o : ℕ) (k : K .Call) (n : K .Num) (h : u .slot o ≡ object n) (r : u .state i ≡ running) where
+module _ {K : Kind} (u : Sys K) (g : Fine u) (i o : ℕ) (k : K .Call) (n : K .Num) (h : u .slot o ≡ object n) (r : u .state i ≡ running) where
   -- it is there
   pub there : u .state i ≡ absent → ⊥
   there a = let v : running ≡ absent = sym r ∙ a in absurd (let y : _≡_ {A = ℕ} 0 1 = cc in omega arith)
@@ -30,36 +30,36 @@ module _ {K : Kind} (new : K .Num → Bool) (u : Sys K) (g : Fine u) (i o : ℕ)
   fit = rw r (right-caller (u .prio i) 1 refl (g .known i there .1))
 
   -- a call by a thread that runs is what the object decides
-  pub decided : (d : Verdict (K .Num) (K .Wish)) → verdict new u i o k n ≡ d → outcome new u i o k n ≡ carried (thread i (u .prio i) 1) d n (u .queue o)
-  decided d y = granted new u i o k n (g .formed o n h) 0 fit ∙ rw y
+  pub decided : (d : Verdict (K .Num) (K .Wish)) → verdict u i o k n ≡ d → outcome u i o k n ≡ carried (thread i (u .prio i) 1) d n (u .queue o)
+  decided d y = granted u i o k n (g .formed o n h) 0 fit ∙ rw y
 
-  pub served : (d : Verdict (K .Num) (K .Wish)) (c : ℕ) → verdict new u i o k n ≡ d → carried (thread i (u .prio i) 1) d n (u .queue o) .turn .code ≡ pos c
-      → called new u i o k .0 ≡ serve new u i o d (carried (thread i (u .prio i) 1) d n (u .queue o))
+  pub served : (d : Verdict (K .Num) (K .Wish)) (c : ℕ) → verdict u i o k n ≡ d → carried (thread i (u .prio i) 1) d n (u .queue o) .turn .code ≡ pos c
+      → called u i o k .0 ≡ serve u i o d (carried (thread i (u .prio i) 1) d n (u .queue o))
   served d c y z = rw (h, decided d y, y, z)
 
-  pub answered : (d : Verdict (K .Num) (K .Wish)) → verdict new u i o k n ≡ d → called new u i o k .1 ≡ carried (thread i (u .prio i) 1) d n (u .queue o) .turn .code
-  answered d y = ap (λ (x : Slot (K .Num)). visited new x u i o k .1) h ∙ ap (λ (x : Out (K .Num)). x .turn .code) (decided d y)
+  pub answered : (d : Verdict (K .Num) (K .Wish)) → verdict u i o k n ≡ d → called u i o k .1 ≡ carried (thread i (u .prio i) 1) d n (u .queue o) .turn .code
+  answered d y = ap (λ (x : Slot (K .Num)). visited x u i o k .1) h ∙ ap (λ (x : Out (K .Num)). x .turn .code) (decided d y)
 
-module _ {K : Kind} (new : K .Num → Bool) (made : Newly K new) (law : Lawful K) (s : Sys K) (b : Start s) (past : List (Op K)) (o : ℕ) where
+module _ {K : Kind} (law : Lawful K) (s : Sys K) (b : Start s) (past : List (Op K)) (o : ℕ) where
   abbrev u : Sys K
-  u = after new s past
+  u = after s past
 
   fine : Fine u
-  fine = always new made law s b past
+  fine = always law s b past
 
   -- the first of a queue waits there, and is to be woken before the others
-  pub leads : (x : ℕ) (q : List ℕ) → u .queue o ≡ x ∷ q → (u .state (ident x) ≡ waiting o) × All (Before (age new s past o) x) q
+  pub leads : (x : ℕ) (q : List ℕ) → u .queue o ≡ x ∷ q → (u .state (ident x) ≡ waiting o) × All (Before (age s past o) x) q
   leads x q e =
       let p : times (ident x) (u .queue o) ≡ on o (u .state (ident x)) = fine .placed o (ident x) in
       let l : 0 < times (ident x) (u .queue o) = rw (e, eq-eqb (ident x) (ident x) refl) (omega arith) in
-      (on-is o (u .state (ident x)) (omega (arith, p, l)), (rw e at (ordered new made law s b past o)) .0)
+      (on-is o (u .state (ident x)) (omega (arith, p, l)), (rw e at (ordered law s b past o)) .0)
 
   module _ (i : ℕ) (k : K .Call) (n : K .Num) (h : u .slot o ≡ object n) (r : u .state i ≡ running) (m : K .Num) (f : ℕ → ℤ) (c : ℕ) where
     -- one
-    pub wakes-first : (x : ℕ) (q : List ℕ) → u .queue o ≡ x ∷ q → verdict new u i o k n ≡ allow m (wake (upTo 1) f) (pos c) → Wakes new s past (invoke i o k) o (f (ident x)) x q []
+    pub wakes-first : (x : ℕ) (q : List ℕ) → u .queue o ≡ x ∷ q → verdict u i o k n ≡ allow m (wake (upTo 1) f) (pos c) → Wakes s past (invoke i o k) o (f (ident x)) x q []
     wakes-first x q e y =
         let d : Verdict (K .Num) (K .Wish) = allow m (wake (upTo 1) f) (pos c) in
-        let v = served new u fine i o k n h r d c y refl in
+        let v = served u fine i o k n h r d c y refl in
         record {
           waited = leads x q e .0;
           best = leads x q e .1;
@@ -69,15 +69,15 @@ module _ {K : Kind} (new : K .Num → Bool) (made : Newly K new) (law : Lawful K
         }
 
     -- all
-    pub wakes-all : verdict new u i o k n ≡ allow m (wake everybody f) (pos c) → WakesAll new s past i o k n f
+    pub wakes-all : verdict u i o k n ≡ allow m (wake everybody f) (pos c) → WakesAll s past i o k n f
     wakes-all y =
         let d : Verdict (K .Num) (K .Wish) = allow m (wake everybody f) (pos c) in
-        let v = served new u fine i o k n h r d c y refl in
+        let v = served u fine i o k n h r d c y refl in
         record {
           gets = λ t z. rw v (is-woken t (holds t (u .queue o)) refl z);
           others = λ t z. rw v (is-not t (holds t (u .queue o)) refl z);
           empty = rw (v, eq-eqb o o refl);
-          told = rw (decided new u fine i o k n h r d y);
+          told = rw (decided u fine i o k n h r d y);
         }
       where
         is-woken : (t : ℕ) (a : Bool) → holds t (u .queue o) ≡ a → u .state t ≡ waiting o → cond a (ready (f t)) (u .state t) ≡ ready (f t)

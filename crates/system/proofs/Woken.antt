@@ -42,13 +42,13 @@ parked-none w q = go (holds (ident w) q) (ltb (length q) maxWaiters)
     go false true = refl
     go false false = refl
 
-module _ {K : Kind} (new : K .Num → Bool) (s : Sys K) (g : Fine s) (i o : ℕ) (k : K .Call) (n : K .Num) (h : s .slot o ≡ object n) where
+module _ {K : Kind} (s : Sys K) (g : Fine s) (i o : ℕ) (k : K .Call) (n : K .Num) (h : s .slot o ≡ object n) where
   abbrev q : List ℕ
   q = s .queue o
 
   module _ (u : Out (K .Num)) (m : K .Num) (p : Pick) (f : ℕ → ℤ) (r : ℤ) where
     abbrev then : Sys K
-    then = serve new s i o (allow m (wake p f) r) u
+    then = serve s i o (allow m (wake p f) r) u
 
     awake : (l : List ℕ) → ((t : ℕ) → holds t l ≡ true → holds t (gone ident p q) ≡ true) → All (Readied then) (map (λ x. queue.woken (f (ident x)) x) l)
     awake [] a = tt
@@ -66,7 +66,7 @@ module _ {K : Kind} (new : K .Num → Bool) (s : Sys K) (g : Fine s) (i o : ℕ)
         go true t z = refl
         go false t z = z
 
-  by-verdict : (d : Verdict (K .Num) (K .Wish)) (u : Out (K .Num)) → HandsOut s i (serve new s i o d u) (carried (thread i (s .prio i) 1) d n q .turn .woken)
+  by-verdict : (d : Verdict (K .Num) (K .Wish)) (u : Out (K .Num)) → HandsOut s i (serve s i o d u) (carried (thread i (s .prio i) 1) d n q .turn .woken)
   by-verdict (deny r) u = record { ready = tt; others = λ t z x. refl }
   by-verdict (allow m keep r) u = record { ready = tt; others = λ t z x. refl }
   by-verdict (allow m (park y) r) u =
@@ -77,20 +77,20 @@ module _ {K : Kind} (new : K .Num → Bool) (s : Sys K) (g : Fine s) (i o : ℕ)
         others = λ t z x. rw (sym (told-holds f t (gone ident p q)) ∙ z);
       }
 
-  pub call-wakes : Allowed (outcome new s i o k n .turn .code) (HandsOut s i (called new s i o k .0) (outcome new s i o k n .turn .woken))
+  pub call-wakes : Allowed (outcome s i o k n .turn .code) (HandsOut s i (called s i o k .0) (outcome s i o k n .turn .woken))
   call-wakes = rw h (go (callerCode (s .prio i) (number (s .state i))) refl)
     where
-      by : (z : ℤ) (d : Verdict (K .Num) (K .Wish)) (u : Out (K .Num)) (w : List ℕ) → HandsOut s i (serve new s i o d u) w → Allowed z (HandsOut s i (unless z s (serve new s i o d u)) w)
+      by : (z : ℤ) (d : Verdict (K .Num) (K .Wish)) (u : Out (K .Num)) (w : List ℕ) → HandsOut s i (serve s i o d u) w → Allowed z (HandsOut s i (unless z s (serve s i o d u)) w)
       by (pos c) d u w x = x
       by (negsuc c) d u w x = tt
 
       go : (z : ℤ) → callerCode (s .prio i) (number (s .state i)) ≡ z
-          → Allowed (outcome new s i o k n .turn .code) (HandsOut s i (visited new (object n) s i o k .0) (outcome new s i o k n .turn .woken))
-      go (negsuc c) z = rw (barred new s i o k n (g .formed o n h) c z) tt
+          → Allowed (outcome s i o k n .turn .code) (HandsOut s i (visited (object n) s i o k .0) (outcome s i o k n .turn .woken))
+      go (negsuc c) z = rw (barred s i o k n (g .formed o n h) c z) tt
       go (pos c) z =
-          by (outcome new s i o k n .turn .code) (verdict new s i o k n) (outcome new s i o k n) (outcome new s i o k n .turn .woken)
-          (subst (λ (w : List ℕ). HandsOut s i (serve new s i o (verdict new s i o k n) (outcome new s i o k n)) w) (sym (ap (λ (y : Out (K .Num)). y .turn .woken) (granted new s i o k n (g .formed o n h) c z)))
-          (by-verdict (verdict new s i o k n) (outcome new s i o k n)))
+          by (outcome s i o k n .turn .code) (verdict s i o k n) (outcome s i o k n) (outcome s i o k n .turn .woken)
+          (subst (λ (w : List ℕ). HandsOut s i (serve s i o (verdict s i o k n) (outcome s i o k n)) w) (sym (ap (λ (y : Out (K .Num)). y .turn .woken) (granted s i o k n (g .formed o n h) c z)))
+          (by-verdict (verdict s i o k n) (outcome s i o k n)))
 
 -- one call after another, of which the second wakes nobody, by a thread that still runs between them
 pub wakes-on : {K : Kind} (s t u : Sys K) (i : ℕ) (y : List ℕ) → t .state i ≡ running → HandsOut s i t y → HandsOut t i u [] → HandsOut s i u y

@@ -31,5 +31,5 @@ pub data Life (K : Kind) (v : ℕ → K .Wish) : Op K → Answer → ℕ → Sta
   born : {a : Answer} {t p : ℕ} → Life K v (spawn t p) a t absent (ready ok)
 
 -- (6) a refusal changes nothing
-abbrev pub Refuses : {K : Kind} → (K .Num → Bool) → Sys K → Op K → Type 0
-Refuses new s x = (c : ℤ) → step new s x .1 ≡ denied c → step new s x .0 ≡ s
+abbrev pub Refuses : {K : Kind} → Sys K → Op K → Type 0
+Refuses s x = (c : ℤ) → step s x .1 ≡ denied c → step s x .0 ≡ s

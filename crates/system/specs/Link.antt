@@ -36,23 +36,23 @@ pub record HandsOut {K : Kind} (s : Sys K) (i : ℕ) (u : Sys K) (y : List ℕ) 
   pub others : (t : ℕ) → holds t y ≡ false → (i ≡ t → ⊥) → u .state t ≡ s .state t
 
 -- the operation f on the memory h, e of the object o, with the answer r and the memory h', e' left, is the call k of the thread i in s
-pub record Steps {K : Kind} (new : K .Num → Bool) {N : Type 0} (L : Layout N) (num : N → K .Num) (s : Sys K) (i o : ℕ) (k : K .Call)
+pub record Steps {K : Kind} {N : Type 0} (L : Layout N) (num : N → K .Num) (s : Sys K) (i o : ℕ) (k : K .Call)
     (f : N → List ℕ → Out N) (h e : List ℕ) (r : ℤ) (h' e' : List ℕ) : Type 0 where
-  pub code : r ≡ called new s i o k .1
-  pub is : Is L num (called new s i o k .0) o h' e'
-  pub woken : on L f h e .turn .woken ≡ outcome new s i o k (num (L .num h)) .turn .woken
-  pub wakes : Allowed r (HandsOut s i (called new s i o k .0) (on L f h e .turn .woken))
+  pub code : r ≡ called s i o k .1
+  pub is : Is L num (called s i o k .0) o h' e'
+  pub woken : on L f h e .turn .woken ≡ outcome s i o k (num (L .num h)) .turn .woken
+  pub wakes : Allowed r (HandsOut s i (called s i o k .0) (on L f h e .turn .woken))
 
 -- an operation on the memory of the object a and on that of the object b, of which m', d' and h', e' are left, with the answer r and the words
 -- y of woken threads, is that the thread i calls j of a and k of b in s, both or neither
-pub record Pairs {K : Kind} (new : K .Num → Bool) {M N : Type 0} (A : Layout M) (f : M → K .Num) (B : Layout N) (g : N → K .Num) (s : Sys K)
+pub record Pairs {K : Kind} {M N : Type 0} (A : Layout M) (f : M → K .Num) (B : Layout N) (g : N → K .Num) (s : Sys K)
     (i a : ℕ) (j : K .Call) (b : ℕ) (k : K .Call) (r : ℤ) (m' d' h' e' y : List ℕ) : Type 0 where
-  pub code : reply r ≡ step new s (both i a j b k) .1
-  pub first : Is A f (step new s (both i a j b k) .0) a m' d'
-  pub second : Is B g (step new s (both i a j b k) .0) b h' e'
-  pub wakes : Allowed r (HandsOut s i (step new s (both i a j b k) .0) y)
+  pub code : reply r ≡ step s (both i a j b k) .1
+  pub first : Is A f (step s (both i a j b k) .0) a m' d'
+  pub second : Is B g (step s (both i a j b k) .0) b h' e'
+  pub wakes : Allowed r (HandsOut s i (step s (both i a j b k) .0) y)
 
 -- an operation on the memory of the object o, of which h', e' are left, with the answer r, is the operation x in s
-pub record Turns {K : Kind} (new : K .Num → Bool) {N : Type 0} (L : Layout N) (num : N → K .Num) (s : Sys K) (o : ℕ) (x : Op K) (r : ℤ) (h' e' : List ℕ) : Type 0 where
-  pub code : reply r ≡ step new s x .1
-  pub is : Allowed r (Is L num (step new s x .0) o h' e')
+pub record Turns {K : Kind} {N : Type 0} (L : Layout N) (num : N → K .Num) (s : Sys K) (o : ℕ) (x : Op K) (r : ℤ) (h' e' : List ℕ) : Type 0 where
+  pub code : reply r ≡ step s x .1
+  pub is : Allowed r (Is L num (step s x .0) o h' e')

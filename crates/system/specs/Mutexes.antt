@@ -9,7 +9,7 @@ use lib.IntN.{ℤ}
 use Rattle.mutex.specs.Mutex.{Owner, nobody, thread, Mutex, unlock, release, owns, maxCount, free}
 use Rattle.mutex.specs.History.{same, counts, begins}
 use Rattle.system.specs.System.{waiting, Slot, vacant, object, Sys, Op, invoke, both, dispatch, yield, expire, spawn, create, unless, called, answers, step, after}
-use Rattle.system.specs.Rtos.{rtos, aMutex, mutexCall, new}
+use Rattle.system.specs.Rtos.{rtos, aMutex, mutexCall}
 
 -- (5) the owner does not wait on it
 abbrev pub Apart : Sys rtos → Type 0
@@ -40,7 +40,7 @@ LetsGo i o (create a n) = ⊥
 
 abbrev pub Owned : Sys rtos → Op rtos → Type 0
 Owned s x =
-    (o i : ℕ) (m n : Mutex) → s .slot o ≡ object (aMutex m) → step new s x .0 .slot o ≡ object (aMutex n) → m .owner ≡ thread i → (n .owner ≡ thread i → ⊥) → LetsGo i o x
+    (o i : ℕ) (m n : Mutex) → s .slot o ≡ object (aMutex m) → step s x .0 .slot o ≡ object (aMutex n) → m .owner ≡ thread i → (n .owner ≡ thread i → ⊥) → LetsGo i o x
 
 -- once made, it stays a mutex
 pub record IsMutex (s : Sys rtos) (o : ℕ) : Type 0 where
@@ -48,7 +48,7 @@ pub record IsMutex (s : Sys rtos) (o : ℕ) : Type 0 where
   pub is : s .slot o ≡ object (aMutex numbers)
 
 abbrev pub Stays : Sys rtos → Op rtos → Type 0
-Stays s x = (o : ℕ) (m : Mutex) → s .slot o ≡ object (aMutex m) → IsMutex (step new s x .0) o
+Stays s x = (o : ℕ) (m : Mutex) → s .slot o ≡ object (aMutex m) → IsMutex (step s x .0) o
 
 -- (5) the count is the owner's locks minus its unlocks since it became the owner, which is told by answers and owners alone
 -- the mutex in a slot; where there is none, a free one
@@ -70,14 +70,14 @@ countsCall (inr (inr k)) r d = d
 -- after the thread i has called k of the object a: who becomes the owner has one lock; a call of the owner counts, and no other
 abbrev pub tally : Sys rtos → ℕ → ℕ → ℕ → rtos .Call → ℕ → ℕ
 tally s o i a k d =
-    cond (same (owner s o) (owner (called new s i a k .0) o))
-    (cond (eqb a o) (cond (owns i (owner s o)) (countsCall k (called new s i a k .1) d) d) d)
-    (begins (owner (called new s i a k .0) o))
+    cond (same (owner s o) (owner (called s i a k .0) o))
+    (cond (eqb a o) (cond (owns i (owner s o)) (countsCall k (called s i a k .1) d) d) d)
+    (begins (owner (called s i a k .0) o))
 
 -- after an operation; two calls that are done together count one after the other
 abbrev pub told : Sys rtos → ℕ → Op rtos → ℕ → ℕ
 told s o (invoke i a k) d = tally s o i a k d
-told s o (both i a j b k) d = cond (eqb a b) d (unless (answers new s i a j b k) d (tally (called new s i a j .0) o i b k (tally s o i a j d)))
+told s o (both i a j b k) d = cond (eqb a b) d (unless (answers s i a j b k) d (tally (called s i a j .0) o i b k (tally s o i a j d)))
 told s o (dispatch i) d = d
 told s o (yield i) d = d
 told s o (expire i) d = d
@@ -87,13 +87,13 @@ told s o (create a n) d = d
 -- after a history, the newest operation in front
 abbrev pub depth : Sys rtos → List (Op rtos) → ℕ → ℕ
 depth s [] o = 0
-depth s (x ∷ past) o = told (after new s past) o x (depth s past o)
+depth s (x ∷ past) o = told (after s past) o x (depth s past o)
 
 -- all of it, after every history
 pub record Mutexes (s : Sys rtos) (past : List (Op rtos)) : Type 0 where
-  pub apart : Apart (after new s past)
-  pub locked : Locked (after new s past)
-  pub idle : Free (after new s past)
-  pub owned : (x : Op rtos) → Owned (after new s past) x
-  pub stays : (x : Op rtos) → Stays (after new s past) x
-  pub depth : (o : ℕ) (m : Mutex) → after new s past .slot o ≡ object (aMutex m) → m .count ≡ depth s past o
+  pub apart : Apart (after s past)
+  pub locked : Locked (after s past)
+  pub idle : Free (after s past)
+  pub owned : (x : Op rtos) → Owned (after s past) x
+  pub stays : (x : Op rtos) → Stays (after s past) x
+  pub depth : (o : ℕ) (m : Mutex) → after s past .slot o ≡ object (aMutex m) → m .count ≡ depth s past o

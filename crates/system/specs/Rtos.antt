@@ -1,13 +1,10 @@
 -- The objects of the system: semaphores, mutexes, condition variables, futexes. To add a kind is one line here.
-use mathlib.Core.Bool.{Bool, true, false, cond}
 use mathlib.Core.Logic.{inl, inr}
-use Prim.Native.Nat.{ℕ}
-use lib.Dec.{eqb, ltb}
 use Rattle.kind.specs.Kind.{Kind}
 use Rattle.sem.specs.Sem as sem
 use Rattle.sem.specs.Sem.{Sem, sem-kind}
 use Rattle.mutex.specs.Mutex as mutex
-use Rattle.mutex.specs.Mutex.{Mutex, held, mutex-kind}
+use Rattle.mutex.specs.Mutex.{Mutex, mutex-kind}
 use Rattle.condvar.specs.Condvar as condvar
 use Rattle.condvar.specs.Condvar.{condvar-kind}
 use Rattle.futex.specs.Futex as futex
@@ -56,14 +53,3 @@ condvarCall k = inr (inr (inl k))
 
 abbrev pub futexCall : futex.Call → rtos .Call
 futexCall k = inr (inr (inr k))
-
--- 32 bits
-abbrev pub small : ℕ → Bool
-small n = ltb n 4294967296
-
--- of which numbers an object can be made: those that init takes, in 32 bits; a mutex is made free
-abbrev pub new : rtos .Num → Bool
-new (inl s) = cond (small (s .limit)) (sem.formed s false) false
-new (inr (inl m)) = cond (held (m .owner)) false (eqb (m .count) 0)
-new (inr (inr (inl c))) = true
-new (inr (inr (inr f))) = small (f .val)

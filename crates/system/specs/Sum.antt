@@ -6,7 +6,7 @@ use Prim.Native.Nat.{ℕ}
 use lib.IntN.{ℤ}
 use Rattle.thread.specs.Code.{einval}
 use Rattle.kind.specs.Verdict.{keep, park, wake, Verdict, deny, allow}
-use Rattle.kind.specs.Kind.{Kind}
+use Rattle.kind.specs.Kind.{Kind, Balance, balanced, impossible}
 
 -- a kind, and a wish that stands for a thread that does not wait there
 pub record Member : Type 1 where
@@ -26,6 +26,10 @@ mapped f g (deny r) = deny r
 mapped f g (allow n keep r) = allow (f n) keep r
 mapped f g (allow n (park x) r) = allow (f n) (park (g x)) r
 mapped f g (allow n (wake p h) r) = allow (f n) (wake p h) r
+
+abbrev pub balance : {M N : Type 0} → (M → N) → Balance M → Balance N
+balance f (balanced m) = balanced (f m)
+balance f impossible = impossible
 
 module _ (A B : Member) where
   abbrev pub formedSum : A .kind .Num ⊎ B .kind .Num → Bool → Bool
@@ -47,6 +51,16 @@ module _ (A B : Member) where
   OwesSum (inl k) x r = A .kind .Owes k (onLeft (A .idle) x) r
   OwesSum (inr k) x r = B .kind .Owes k (onRight (B .idle) x) r
 
+  abbrev pub newSum : A .kind .Num ⊎ B .kind .Num → Bool
+  newSum (inl m) = A .kind .new m
+  newSum (inr n) = B .kind .new n
+
+  abbrev pub booksSum : A .kind .Num ⊎ B .kind .Num → ℕ → A .kind .Call ⊎ B .kind .Call → ℤ → List ℕ → Balance (A .kind .Num ⊎ B .kind .Num)
+  booksSum (inl m) w (inl k) r l = balance inl (A .kind .books m w k r l)
+  booksSum (inl m) w (inr k) r l = impossible
+  booksSum (inr n) w (inl k) r l = impossible
+  booksSum (inr n) w (inr k) r l = balance inr (B .kind .books n w k r l)
+
 infixr 40 _⊕_
 abbrev pub _⊕_ : Member → Member → Member
 A ⊕ B =
@@ -60,6 +74,8 @@ A ⊕ B =
             decide = decideSum A B;
             Blocked = BlockedSum A B;
             Owes = OwesSum A B;
+            new = newSum A B;
+            books = booksSum A B;
           };
       idle = inl (A .idle);
     }

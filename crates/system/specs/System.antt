@@ -1,6 +1,6 @@
 -- Threads and objects of one kind, which may be a sum: one step for every operation, with its answer.
 use mathlib.Core.Bool.{Bool, true, false, cond}
-use mathlib.Core.List.{List, [], _∷_, map}
+use mathlib.Core.List.{List, [], _∷_, _++_, map}
 use Prim.Native.Nat.{ℕ}
 use lib.Dec.{eqb, ltb}
 use lib.IntN.{ℤ, pos, negsuc}
@@ -57,6 +57,26 @@ abbrev pub reply : ℤ → Answer
 reply (pos c) = done (pos c)
 reply (negsuc c) = denied (negsuc c)
 
+-- a thread that is made ready, and the result of the call in which it waited
+pub record Woken : Type 0 where
+  pub thread : ℕ
+  pub result : ℤ
+
+-- what an operation gives: the state after it, its answer, and the threads that it wakes, in the order in which they are handed out
+abbrev pub Reply : Kind → Type 0
+Reply K = Sys K × Answer × List Woken
+
+-- any kernel: a reply to each operation in each state
+abbrev pub Kernel : Kind → Type 0
+Kernel K = Sys K → Op K → Reply K
+
+-- done, and nobody is woken; refused, and nothing changes
+abbrev pub accept : {K : Kind} → Sys K → ℤ → Reply K
+accept s c = (s, done c, [])
+
+abbrev pub refuse : {K : Kind} → Sys K → ℤ → Reply K
+refuse s c = (s, denied c, [])
+
 -- the table f with x at the place i
 abbrev pub upd : {A : Type 0} → (ℕ → A) → ℕ → A → ℕ → A
 upd f i x t = cond (eqb i t) x (f t)
@@ -76,6 +96,12 @@ wishes keep i v t = v t
 wishes (park x) i v t = upd v i x t
 wishes (wake p g) i v t = v t
 
+-- who is woken by an act on the queue q
+abbrev pub woken : {W : Type 0} → Act W → List ℕ → List Woken
+woken keep q = []
+woken (park x) q = []
+woken (wake p g) q = map (λ x. record { thread = ident x; result = g (ident x) }) (gone ident p q)
+
 -- u, unless the answer is a refusal
 abbrev pub unless : {A : Type 0} → ℤ → A → A → A
 unless (pos c) s u = u
@@ -92,7 +118,7 @@ gone-by running = false
 gone-by (ready r) = false
 gone-by (waiting o) = false
 
-module _ {K : Kind} (new : K .Num → Bool) where
+module _ {K : Kind} where
   -- what the object o, with the numbers n, does: the definition that the code's contract cites
   abbrev pub outcome : Sys K → ℕ → ℕ → K .Call → K .Num → Out (K .Num)
   outcome s i o k n = call K (s .wish) (thread i (s .prio i) (number (s .state i))) k n (s .queue o)
@@ -111,29 +137,32 @@ module _ {K : Kind} (new : K .Num → Bool) where
         queue = upd (s .queue) o (u .turn .queue);
       }
 
-  abbrev pub visited : Slot (K .Num) → Sys K → ℕ → ℕ → K .Call → Sys K × ℤ
-  visited vacant s i o k = (s, einval)
-  visited (object n) s i o k =
-      (unless (outcome s i o k n .turn .code) s (serve s i o (verdict s i o k n) (outcome s i o k n)), outcome s i o k n .turn .code)
+  abbrev pub visited : Slot (K .Num) → Sys K → ℕ → ℕ → K .Call → Sys K × ℤ × List Woken
+  visited vacant s i o k = (s, einval, [])
+  visited (object n) s i o k = (
+    unless (outcome s i o k n .turn .code) s (serve s i o (verdict s i o k n) (outcome s i o k n)),
+    outcome s i o k n .turn .code,
+    unless (outcome s i o k n .turn .code) [] (woken (deed (verdict s i o k n)) (s .queue o)),
+  )
 
-  abbrev pub called : Sys K → ℕ → ℕ → K .Call → Sys K × ℤ
+  abbrev pub called : Sys K → ℕ → ℕ → K .Call → Sys K × ℤ × List Woken
   called s i o k = visited (s .slot o) s i o k
 
   abbrev pub setState : Sys K → ℕ → State → Sys K
   setState s i x = record { prio = s .prio; state = upd (s .state) i x; wish = s .wish; slot = s .slot; queue = s .queue }
 
   -- a thread that was woken gets the result of the call in which it waited
-  abbrev pub dispatched : State → Sys K → ℕ → Sys K × Answer
-  dispatched absent s i = (s, denied einval)
-  dispatched running s i = (s, denied einval)
-  dispatched (ready r) s i = (setState s i running, done r)
-  dispatched (waiting o) s i = (s, denied einval)
+  abbrev pub dispatched : State → Sys K → ℕ → Reply K
+  dispatched absent s i = refuse s einval
+  dispatched running s i = refuse s einval
+  dispatched (ready r) s i = accept (setState s i running) r
+  dispatched (waiting o) s i = refuse s einval
 
-  abbrev pub yielded : State → Sys K → ℕ → Sys K × Answer
-  yielded absent s i = (s, denied einval)
-  yielded running s i = (setState s i (ready ok), done ok)
-  yielded (ready r) s i = (s, denied einval)
-  yielded (waiting o) s i = (s, denied einval)
+  abbrev pub yielded : State → Sys K → ℕ → Reply K
+  yielded absent s i = refuse s einval
+  yielded running s i = accept (setState s i (ready ok)) ok
+  yielded (ready r) s i = refuse s einval
+  yielded (waiting o) s i = refuse s einval
 
   abbrev pub left : Sys K → ℕ → ℕ → Sys K
   left s i o =
@@ -145,37 +174,39 @@ module _ {K : Kind} (new : K .Num → Bool) where
         queue = upd (s .queue) o (without i (s .queue o));
       }
 
-  abbrev pub expired : State → Sys K → ℕ → Sys K × Answer
-  expired absent s i = (s, denied einval)
-  expired running s i = (s, denied einval)
-  expired (ready r) s i = (s, denied einval)
-  expired (waiting o) s i = (left s i o, done ok)
+  abbrev pub expired : State → Sys K → ℕ → Reply K
+  expired absent s i = refuse s einval
+  expired running s i = refuse s einval
+  expired (ready r) s i = refuse s einval
+  expired (waiting o) s i = accept (left s i o) ok
+
+  abbrev pub born : Sys K → ℕ → ℕ → Sys K
+  born s i p = record { prio = upd (s .prio) i p; state = upd (s .state) i (ready ok); wish = s .wish; slot = s .slot; queue = s .queue }
 
   -- ids are 32-bit numbers, and priorities 0 to 31
-  abbrev pub spawned : Sys K → ℕ → ℕ → Sys K × Answer
-  spawned s i p =
-      cond (gone-by (s .state i))
-      (cond (ltb i 4294967296)
-      (cond (valid p)
-      (record { prio = upd (s .prio) i p; state = upd (s .state) i (ready ok); wish = s .wish; slot = s .slot; queue = s .queue }, done ok)
-      (s, denied einval))
-      (s, denied einval))
-      (s, denied einval)
+  abbrev pub spawned : Sys K → ℕ → ℕ → Reply K
+  spawned s i p = cond (gone-by (s .state i)) (cond (ltb i 4294967296) (cond (valid p) (accept (born s i p) ok) (refuse s einval)) (refuse s einval)) (refuse s einval)
 
-  abbrev pub created : Sys K → ℕ → K .Num → Sys K × Answer
-  created s o n =
-      cond (free (s .slot o))
-      (cond (new n) (record { prio = s .prio; state = s .state; wish = s .wish; slot = upd (s .slot) o (object n); queue = s .queue }, done ok) (s, denied einval))
-      (s, denied einval)
+  abbrev pub placed : Sys K → ℕ → K .Num → Sys K
+  placed s o n = record { prio = s .prio; state = s .state; wish = s .wish; slot = upd (s .slot) o (object n); queue = s .queue }
+
+  abbrev pub created : Sys K → ℕ → K .Num → Reply K
+  created s o n = cond (free (s .slot o)) (cond (K .new n) (accept (placed s o n) ok) (refuse s einval)) (refuse s einval)
 
   -- both calls, the second in the state that the first leaves
   abbrev pub answers : Sys K → ℕ → ℕ → K .Call → ℕ → K .Call → ℤ
   answers s i a j b k = agreed (called s i a j .1) (called (called s i a j .0) i b k .1)
 
-  abbrev pub step : Sys K → Op K → Sys K × Answer
-  step s (invoke i o k) = (called s i o k .0, reply (called s i o k .1))
-  step s (both i a j b k) =
-      cond (eqb a b) (s, denied einval) (unless (answers s i a j b k) s (called (called s i a j .0) i b k .0), reply (answers s i a j b k))
+  abbrev pub paired : Sys K → ℕ → ℕ → K .Call → ℕ → K .Call → Reply K
+  paired s i a j b k = (
+    unless (answers s i a j b k) s (called (called s i a j .0) i b k .0),
+    reply (answers s i a j b k),
+    unless (answers s i a j b k) [] (called s i a j .2 ++ called (called s i a j .0) i b k .2),
+  )
+
+  abbrev pub step : Kernel K
+  step s (invoke i o k) = (called s i o k .0, reply (called s i o k .1), called s i o k .2)
+  step s (both i a j b k) = cond (eqb a b) (refuse s einval) (paired s i a j b k)
   step s (dispatch i) = dispatched (s .state i) s i
   step s (yield i) = yielded (s .state i) s i
   step s (expire i) = expired (s .state i) s i
