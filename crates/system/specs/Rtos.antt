@@ -10,18 +10,26 @@ use Rattle.condvar.specs.Condvar.{condvar-kind}
 use Rattle.futex.specs.Futex as futex
 use Rattle.futex.specs.Futex.{Futex, futex-kind}
 use Rattle.system.specs.Sum.{Member, _⊕_}
+use Rattle.system.specs.SemRules.{SemMakes, SemRules}
+use Rattle.system.specs.MutexRules.{MutexMakes, MutexRules}
+use Rattle.system.specs.CondvarRules.{CondvarRules}
+use Rattle.system.specs.FutexRules.{FutexMakes, FutexRules}
+
+-- no call of the kind itself is for another
+abbrev pub own : {N C : Type 0} → N → C → Type 0
+own n k = ⊥
 
 abbrev pub sems : Member
-sems = record { kind = sem-kind; idle = tt }
+sems = record { kind = sem-kind; idle = tt; Makes = SemMakes; Rules = SemRules; Foreign = own }
 
 abbrev pub mutexes : Member
-mutexes = record { kind = mutex-kind; idle = tt }
+mutexes = record { kind = mutex-kind; idle = tt; Makes = MutexMakes; Rules = MutexRules; Foreign = own }
 
 abbrev pub condvars : Member
-condvars = record { kind = condvar-kind; idle = tt }
+condvars = record { kind = condvar-kind; idle = tt; Makes = λ n. Unit {0}; Rules = λ P f s i o n. CondvarRules P f s i o; Foreign = own }
 
 abbrev pub futexes : Member
-futexes = record { kind = futex-kind; idle = tt }
+futexes = record { kind = futex-kind; idle = tt; Makes = FutexMakes; Rules = FutexRules; Foreign = own }
 
 abbrev pub members : Member
 members = sems ⊕ mutexes ⊕ condvars ⊕ futexes

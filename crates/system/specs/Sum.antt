@@ -7,11 +7,20 @@ use lib.IntN.{ℤ}
 use Rattle.thread.specs.Code.{einval}
 use Rattle.kind.specs.Verdict.{keep, park, wake, Verdict, deny, allow}
 use Rattle.kind.specs.Kind.{Kind, Balance, balanced, impossible}
+use Rattle.system.specs.System.{Sys, Kernel}
+use Rattle.system.specs.Part.{Part}
 
--- a kind, and a wish that stands for a thread that does not wait there
+-- a kind of object of the system
 pub record Member : Type 1 where
   pub kind : Kind
+  -- a wish that stands for a thread that does not wait there
   pub idle : kind .Wish
+  -- of which numbers it can be made
+  pub Makes : kind .Num → Type 0
+  -- its data sheet, in any system that has it: what a kernel f does in the state s with the calls of the thread i, which runs, of the object o
+  pub Rules : {K : Kind} → Part kind K → Kernel K → Sys K → ℕ → ℕ → kind .Num → Type 0
+  -- the call is for another kind of object
+  pub Foreign : kind .Num → kind .Call → Type 0
 
 abbrev pub onLeft : {A B : Type 0} → A → A ⊎ B → A
 onLeft a (inl x) = x
@@ -61,21 +70,41 @@ module _ (A B : Member) where
   booksSum (inr n) w (inl k) r l = impossible
   booksSum (inr n) w (inr k) r l = balance inr (B .kind .books n w k r l)
 
+  abbrev pub MakesSum : A .kind .Num ⊎ B .kind .Num → Type 0
+  MakesSum (inl m) = A .Makes m
+  MakesSum (inr n) = B .Makes n
+
+  abbrev pub ForeignSum : A .kind .Num ⊎ B .kind .Num → A .kind .Call ⊎ B .kind .Call → Type 0
+  ForeignSum (inl m) (inl k) = A .Foreign m k
+  ForeignSum (inl m) (inr k) = Unit {0}
+  ForeignSum (inr n) (inl k) = Unit {0}
+  ForeignSum (inr n) (inr k) = B .Foreign n k
+
+  abbrev pub sumKind : Kind
+  sumKind =
+      record {
+        Num = A .kind .Num ⊎ B .kind .Num;
+        Call = A .kind .Call ⊎ B .kind .Call;
+        Wish = A .kind .Wish ⊎ B .kind .Wish;
+        formed = formedSum;
+        decide = decideSum;
+        Blocked = BlockedSum;
+        Owes = OwesSum;
+        new = newSum;
+        books = booksSum;
+      }
+
+  -- a system that has both has each
+  abbrev pub inLeft : {K : Kind} → Part sumKind K → Part (A .kind) K
+  inLeft P = record { num = λ n. P .num (inl n); call = λ k. P .call (inl k); wish = λ x. P .wish (inl x); seen = λ x. onLeft (A .idle) (P .seen x) }
+
+  abbrev pub inRight : {K : Kind} → Part sumKind K → Part (B .kind) K
+  inRight P = record { num = λ n. P .num (inr n); call = λ k. P .call (inr k); wish = λ x. P .wish (inr x); seen = λ x. onRight (B .idle) (P .seen x) }
+
+  abbrev pub RulesSum : {K : Kind} → Part sumKind K → Kernel K → Sys K → ℕ → ℕ → A .kind .Num ⊎ B .kind .Num → Type 0
+  RulesSum P f s i o (inl m) = A .Rules (inLeft P) f s i o m
+  RulesSum P f s i o (inr n) = B .Rules (inRight P) f s i o n
+
 infixr 40 _⊕_
 abbrev pub _⊕_ : Member → Member → Member
-A ⊕ B =
-    record {
-      kind =
-          record {
-            Num = A .kind .Num ⊎ B .kind .Num;
-            Call = A .kind .Call ⊎ B .kind .Call;
-            Wish = A .kind .Wish ⊎ B .kind .Wish;
-            formed = formedSum A B;
-            decide = decideSum A B;
-            Blocked = BlockedSum A B;
-            Owes = OwesSum A B;
-            new = newSum A B;
-            books = booksSum A B;
-          };
-      idle = inl (A .idle);
-    }
+A ⊕ B = record { kind = sumKind A B; idle = inl (A .idle); Makes = MakesSum A B; Rules = RulesSum A B; Foreign = ForeignSum A B }
