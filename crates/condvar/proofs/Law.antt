@@ -14,7 +14,7 @@ sound v q w broadcast = refl
 sound v q w wait = refl
 sound v q w tryWait = tt
 
-right : (v : ℕ → Unit {0}) (q : List ℕ) (w : ℕ) (k : Call) → Right condvar-kind v q k (decide tt v q w k)
+right : (v : ℕ → Unit {0}) (q : List ℕ) (w : ℕ) (k : Call) → Right condvar-kind v q w k (decide tt v q w k)
 right v [] w signal = tt
 right v (t ∷ q) w signal = (all-of (λ t. Unit {0}) (λ t. tt) q, (refl, tt))
 right v q w broadcast = (tt, all-of (λ t. ok ≡ ok) (λ t. refl) q)
@@ -32,7 +32,7 @@ pub condvar-lawful : Lawful condvar-kind
 condvar-lawful =
     record {
       sound = λ n v q w k f. sound v q w k;
-      right = λ n v q w k f r. right v q w k;
+      right = λ n v q w k f d r. right v q w k;
       fewer = λ n f. refl;
       made = λ n e. refl;
       booked = λ n v q w k f. booked v q w k;

@@ -25,10 +25,10 @@ sound x v (t ∷ q) w wakeOne = refl
 sound x v q w wakeAll = refl
 sound x v q w (set y) = refl
 
-right : (x : ℕ) (v : ℕ → Unit {0}) (q : List ℕ) (w : ℕ) (k : Call) → Right futex-kind v q k (decide (mk x) v q w k)
+right : (x : ℕ) (v : ℕ → Unit {0}) (q : List ℕ) (w : ℕ) (k : Call) → Right futex-kind v q w k (decide (mk x) v q w k)
 right x v q w (wait y) = go (eqb x y)
   where
-    go : (b : Bool) → Right futex-kind v q (wait y) (cond b (allow (mk x) (park tt) waits) (deny eagain))
+    go : (b : Bool) → Right futex-kind v q w (wait y) (cond b (allow (mk x) (park tt) waits) (deny eagain))
     go true = (tt, all-of (λ t. Unit {0}) (λ t. tt) q)
     go false = tt
 right x v [] w wakeOne = tt
@@ -51,7 +51,7 @@ pub futex-lawful : Lawful futex-kind
 futex-lawful =
     record {
       sound = λ n v q w k f. sound (n .val) v q w k;
-      right = λ n v q w k f r. right (n .val) v q w k;
+      right = λ n v q w k f d r. right (n .val) v q w k;
       fewer = λ n f. refl;
       made = λ n e. refl;
       booked = λ n v q w k f. booked (n .val) v q w k;

@@ -1,7 +1,7 @@
 -- A kind of kernel object, and what it has to prove to get every law of this crate.
 use mathlib.Core.Path.{_≡_}
 use mathlib.Core.Bool.{Bool, true, false, cond}
-use mathlib.Core.List.{List, []}
+use mathlib.Core.List.{List, [], _∷_}
 use Prim.Native.Nat.{ℕ}
 use lib.Dec.{ltb}
 use lib.IntN.{ℤ}
@@ -24,8 +24,8 @@ pub record Kind : Type 1 where
   pub formed : Num → Bool → Bool
   -- from the numbers, the wishes and the threads of those that wait, the caller and the call
   pub decide : Num → (ℕ → Wish) → List ℕ → ℕ → Call → Verdict Num Wish
-  -- with such numbers one waits with this wish: what it waits for is not there
-  pub Blocked : Num → Wish → Type 0
+  -- with such numbers this thread waits with this wish: what it waits for is not there
+  pub Blocked : Num → ℕ → Wish → Type 0
   -- the result that a call owes to one that it wakes and that waited with this wish
   pub Owes : Call → Wish → ℤ → Type 0
   -- of which numbers a new object can be made
@@ -39,7 +39,12 @@ judge K n v q w k = cond (K .formed n (any q)) (K .decide n v q w k) (deny einva
 
 -- nobody of q waits for what is there
 abbrev pub Rightly : (K : Kind) → K .Num → (ℕ → K .Wish) → List ℕ → Type 0
-Rightly K n v q = All (λ t. K .Blocked n (v t)) q
+Rightly K n v q = All (λ t. K .Blocked n t (v t)) q
+
+-- nobody stands in q twice
+abbrev pub Distinct : List ℕ → Type 0
+Distinct [] = Unit {0}
+Distinct (t ∷ q) = All (λ u. t ≡ u → ⊥) q × Distinct q
 
 -- 32 bits
 abbrev pub small : ℕ → Bool
@@ -60,12 +65,12 @@ Sound K q (allow n keep r) = K .formed n (any q) ≡ true
 Sound K q (allow n (park x) r) = K .formed n true ≡ true
 Sound K q (allow n (wake p f) r) = K .formed n (any (left itself p q)) ≡ true
 
--- a verdict on the call k leaves nobody waiting for what is there, and pays what it owes
-abbrev pub Right : (K : Kind) → (ℕ → K .Wish) → List ℕ → K .Call → Verdict (K .Num) (K .Wish) → Type 0
-Right K v q k (deny r) = Unit {0}
-Right K v q k (allow n keep r) = Rightly K n v q
-Right K v q k (allow n (park x) r) = K .Blocked n x × Rightly K n v q
-Right K v q k (allow n (wake p f) r) = Rightly K n v (left itself p q) × All (λ t. K .Owes k (v t) (f t)) (gone itself p q)
+-- a verdict on the call k of the thread w leaves nobody waiting for what is there, and pays what it owes
+abbrev pub Right : (K : Kind) → (ℕ → K .Wish) → List ℕ → ℕ → K .Call → Verdict (K .Num) (K .Wish) → Type 0
+Right K v q w k (deny r) = Unit {0}
+Right K v q w k (allow n keep r) = Rightly K n v q
+Right K v q w k (allow n (park x) r) = K .Blocked n w x × Rightly K n v q
+Right K v q w k (allow n (wake p f) r) = Rightly K n v (left itself p q) × All (λ t. K .Owes k (v t) (f t)) (gone itself p q)
 
 -- a verdict on the call k of the thread w leaves what the books say
 abbrev pub Booked : (K : Kind) → K .Num → List ℕ → ℕ → K .Call → Verdict (K .Num) (K .Wish) → Type 0
@@ -78,8 +83,8 @@ Booked K n q w k (allow m (wake p f) r) = K .books n w k r (gone itself p q) ≡
 pub record Lawful (K : Kind) : Type 0 where
   pub sound : (n : K .Num) (v : ℕ → K .Wish) (q : List ℕ) (w : ℕ) (k : K .Call) → K .formed n (any q) ≡ true
       → Sound K q (K .decide n v q w k)
-  pub right : (n : K .Num) (v : ℕ → K .Wish) (q : List ℕ) (w : ℕ) (k : K .Call) → K .formed n (any q) ≡ true → Rightly K n v q
-      → Right K v q k (K .decide n v q w k)
+  pub right : (n : K .Num) (v : ℕ → K .Wish) (q : List ℕ) (w : ℕ) (k : K .Call) → K .formed n (any q) ≡ true → Distinct q → Rightly K n v q
+      → Right K v q w k (K .decide n v q w k)
   -- who leaves changes no number
   pub fewer : (n : K .Num) → K .formed n true ≡ true → K .formed n false ≡ true
   -- what is made is as it should be

@@ -5,15 +5,14 @@ use mathlib.Core.List.{List, [], _∷_}
 use Prim.Native.Nat.{ℕ, suc, _-_, _<_}
 use native.Mathlib.Omega.{arith}
 use lib.Dec.{ltb, eqb}
-use borrow.Author.Tests.{lt-ltb, ltb-true, eq-eqb, eqb-true}
-use Rattle.seq.specs.List.{any}
+use borrow.Author.Tests.{lt-ltb, ltb-true, eq-eqb, eqb-true, eqb-false}
+use Rattle.seq.specs.List.{any, All}
 use Rattle.seq.proofs.Order.{clash}
 use Rattle.thread.specs.Code.{ok, eperm, ebusy, edeadlk, eoverflow}
 use Rattle.wait_queue.specs.Turn.{waits}
 use Rattle.kind.specs.Verdict.{keep, park, Verdict, deny, allow}
-use Rattle.kind.specs.Kind.{Lawful, Rightly, Sound, Right}
-use Rattle.kind.proofs.Picks.{all-of}
-use Rattle.mutex.specs.Mutex.{Owner, nobody, thread, Mutex, Call, lock, tryLock, unlock, release, held, formed, maxCount, released, locks, passes, unlocks, decide, Owed, new, mutex-kind}
+use Rattle.kind.specs.Kind.{Lawful, Rightly, Distinct, Sound, Right}
+use Rattle.mutex.specs.Mutex.{Owner, nobody, thread, Mutex, Call, lock, tryLock, unlock, release, held, Another, formed, maxCount, released, locks, passes, unlocks, decide, Owed, new, mutex-kind}
 use Rattle.mutex.proofs.Books.{books-right}
 pub use Rattle.mutex.proofs.Books.{mk}
 
@@ -29,6 +28,11 @@ free-empty c w f = go (eqb c 0) w refl f
     go true false z h = (eqb-true c 0 z, refl)
     go false b z h = clash (sym h)
 
+-- nobody waits wrongly where nobody waits
+none-right : (o : Owner) (q : List ℕ) → any q ≡ false → All (λ t. Another o t) q
+none-right o [] e = tt
+none-right o (t ∷ q) e = clash e
+
 -- whether a lock is sound and right hangs on the verdict d on another's mutex
 module _ (v : ℕ → Unit {0}) (q : List ℕ) (w : ℕ) where
   locks-sound : (o : Owner) (c : ℕ) (d : Verdict Mutex (Unit {0})) → formed (mk o c) (any q) ≡ true → Sound mutex-kind q d → Sound mutex-kind q (locks (mk o c) w d)
@@ -40,24 +44,24 @@ module _ (v : ℕ → Unit {0}) (q : List ℕ) (w : ℕ) where
       go true false = tt
       go false b = s
 
-  locks-right : (k : Call) (o : Owner) (c : ℕ) (d : Verdict Mutex (Unit {0})) → formed (mk o c) (any q) ≡ true → Rightly mutex-kind (mk o c) v q → Right mutex-kind v q k d
-      → Right mutex-kind v q k (locks (mk o c) w d)
-  locks-right k nobody c d f r s = all-of (λ t. held (thread w) ≡ true) (λ t. refl) q
-  locks-right k (thread i) c d f r s = go (eqb i w) (ltb c maxCount)
+  locks-right : (k : Call) (o : Owner) (c : ℕ) (d : Verdict Mutex (Unit {0})) → formed (mk o c) (any q) ≡ true → Rightly mutex-kind (mk o c) v q
+      → (Another o w → Right mutex-kind v q w k d) → Right mutex-kind v q w k (locks (mk o c) w d)
+  locks-right k nobody c d f r s = none-right (thread w) q (free-empty c (any q) f .1)
+  locks-right k (thread i) c d f r s = go (eqb i w) (ltb c maxCount) refl
     where
-      go : (a b : Bool) → Right mutex-kind v q k (cond a (cond b (allow (mk (thread i) (suc c)) keep ok) (deny eoverflow)) d)
-      go true true = r
-      go true false = tt
-      go false b = s
+      go : (a b : Bool) → eqb i w ≡ a → Right mutex-kind v q w k (cond a (cond b (allow (mk (thread i) (suc c)) keep ok) (deny eoverflow)) d)
+      go true true z = r
+      go true false z = tt
+      go false b z = s (eqb-false i w z)
 
 -- the last unlock
 passes-sound : (q : List ℕ) → Sound mutex-kind q (passes q)
 passes-sound [] = refl
 passes-sound (t ∷ q) = refl
 
-passes-right : (v : ℕ → Unit {0}) (q : List ℕ) (k : Call) → Owed k ok → Right mutex-kind v q k (passes q)
-passes-right v [] k e = tt
-passes-right v (t ∷ q) k e = (all-of (λ t. held (thread t) ≡ true) (λ t. refl) q, (e, tt))
+passes-right : (v : ℕ → Unit {0}) (q : List ℕ) (w : ℕ) (k : Call) → Distinct q → Owed k ok → Right mutex-kind v q w k (passes q)
+passes-right v [] w k a e = tt
+passes-right v (t ∷ q) w k a e = (a .0, (e, tt))
 
 module _ (v : ℕ → Unit {0}) (q : List ℕ) (w : ℕ) where
   unlocks-sound : (o : Owner) (c : ℕ) (d : Verdict Mutex (Unit {0})) → (1 < c → Sound mutex-kind q d) → Sound mutex-kind q (unlocks (mk o c) w q d)
@@ -69,13 +73,13 @@ module _ (v : ℕ → Unit {0}) (q : List ℕ) (w : ℕ) where
       go true false z = passes-sound q
       go false b z = tt
 
-  unlocks-right : (k : Call) → Owed k ok → (o : Owner) (c : ℕ) (d : Verdict Mutex (Unit {0})) → Right mutex-kind v q k d → Right mutex-kind v q k (unlocks (mk o c) w q d)
-  unlocks-right k e nobody c d s = tt
-  unlocks-right k e (thread i) c d s = go (eqb i w) (ltb 1 c)
+  unlocks-right : (k : Call) → Distinct q → Owed k ok → (o : Owner) (c : ℕ) (d : Verdict Mutex (Unit {0})) → Right mutex-kind v q w k d → Right mutex-kind v q w k (unlocks (mk o c) w q d)
+  unlocks-right k a e nobody c d s = tt
+  unlocks-right k a e (thread i) c d s = go (eqb i w) (ltb 1 c)
     where
-      go : (a b : Bool) → Right mutex-kind v q k (cond a (cond b d (passes q)) (deny eperm))
+      go : (a b : Bool) → Right mutex-kind v q w k (cond a (cond b d (passes q)) (deny eperm))
       go true true = s
-      go true false = passes-right v q k e
+      go true false = passes-right v q w k a e
       go false b = tt
 
 sound : (o : Owner) (c : ℕ) (v : ℕ → Unit {0}) (q : List ℕ) (w : ℕ) (k : Call) → formed (mk o c) (any q) ≡ true → Sound mutex-kind q (decide (mk o c) v q w k)
@@ -87,13 +91,12 @@ sound (thread i) c v q w unlock f =
     unlocks-sound v q w (thread i) c (allow (mk (thread i) (c - 1)) keep released) (λ h. lt-ltb 0 (c - 1) (omega arith))
 sound o c v q w release f = unlocks-sound v q w o c (deny edeadlk) (λ h. tt)
 
-right : (o : Owner) (c : ℕ) (v : ℕ → Unit {0}) (q : List ℕ) (w : ℕ) (k : Call) → formed (mk o c) (any q) ≡ true → Rightly mutex-kind (mk o c) v q
-    → Right mutex-kind v q k (decide (mk o c) v q w k)
-right nobody c v q w lock f r = all-of (λ t. held (thread w) ≡ true) (λ t. refl) q
-right (thread i) c v q w lock f r = locks-right v q w lock (thread i) c (allow (mk (thread i) c) (park tt) waits) f r (refl, r)
-right o c v q w tryLock f r = locks-right v q w tryLock o c (deny ebusy) f r tt
-right o c v q w unlock f r = unlocks-right v q w unlock refl o c (allow (mk o (c - 1)) keep released) r
-right o c v q w release f r = unlocks-right v q w release refl o c (deny edeadlk) tt
+right : (o : Owner) (c : ℕ) (v : ℕ → Unit {0}) (q : List ℕ) (w : ℕ) (k : Call) → formed (mk o c) (any q) ≡ true → Distinct q → Rightly mutex-kind (mk o c) v q
+    → Right mutex-kind v q w k (decide (mk o c) v q w k)
+right o c v q w lock f a r = locks-right v q w lock o c (allow (mk o c) (park tt) waits) f r (λ e. (e, r))
+right o c v q w tryLock f a r = locks-right v q w tryLock o c (deny ebusy) f r (λ e. tt)
+right o c v q w unlock f a r = unlocks-right v q w unlock a refl o c (allow (mk o (c - 1)) keep released) r
+right o c v q w release f a r = unlocks-right v q w release a refl o c (deny edeadlk) tt
 
 nobody-waits : (o : Owner) (c : ℕ) → formed (mk o c) true ≡ true → formed (mk o c) false ≡ true
 nobody-waits nobody c f = clash (free-empty c true f .1)
@@ -111,7 +114,7 @@ pub mutex-lawful : Lawful mutex-kind
 mutex-lawful =
     record {
       sound = λ n v q w k f. sound (n .owner) (n .count) v q w k f;
-      right = λ n v q w k f r. right (n .owner) (n .count) v q w k f r;
+      right = λ n v q w k f a r. right (n .owner) (n .count) v q w k f a r;
       fewer = λ n f. nobody-waits (n .owner) (n .count) f;
       made = made;
       booked = λ n v q w k f. books-right (n .owner) (n .count) v q w k;

@@ -31,6 +31,11 @@ abbrev pub owns : ℕ → Owner → Bool
 owns i nobody = false
 owns i (thread j) = eqb j i
 
+-- another than the thread i owns it
+abbrev pub Another : Owner → ℕ → Type 0
+Another nobody i = ⊥
+Another (thread j) i = j ≡ i → ⊥
+
 -- an owner has a count; a free mutex has none, and nobody waits for it
 abbrev pub formed : Mutex → Bool → Bool
 formed m w = cond (held (m .owner)) (ltb 0 (m .count)) (cond (eqb (m .count) 0) (not w) false)
@@ -128,7 +133,7 @@ mutex-kind =
       Wish = Unit {0};
       formed = formed;
       decide = decide;
-      Blocked = λ m x. held (m .owner) ≡ true;
+      Blocked = λ m t x. Another (m .owner) t;
       Owes = λ k x r. Owed k r;
       new = new;
       books = books;

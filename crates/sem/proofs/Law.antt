@@ -106,22 +106,22 @@ sound c l v q w tryTake f = go (ltb 0 c) refl
 sound c l v q w reset f = zeroed c l (any q) false f
 
 right : (c l : ℕ) (v : ℕ → Unit {0}) (q : List ℕ) (w : ℕ) (k : Call) → formed (mk c l) (any q) ≡ true → Rightly sem-kind (mk c l) v q
-    → Right sem-kind v q k (decide (mk c l) v q w k)
+    → Right sem-kind v q w k (decide (mk c l) v q w k)
 right c l v [] w give f r = go (ltb c l) refl
   where
-    go : (b : Bool) → ltb c l ≡ b → Right sem-kind v [] give (decide (mk c l) v [] w give)
+    go : (b : Bool) → ltb c l ≡ b → Right sem-kind v [] w give (decide (mk c l) v [] w give)
     go true z = rw z tt
     go false z = rw z tt
 right c l v (x ∷ q) w give f r = (r .1, (refl, tt))
 right c l v q w take f r = go (ltb 0 c) q refl f r
   where
-    go : (b : Bool) (m : List ℕ) → ltb 0 c ≡ b → formed (mk c l) (any m) ≡ true → All (λ t. c ≡ 0) m → Right sem-kind v m take (decide (mk c l) v m w take)
+    go : (b : Bool) (m : List ℕ) → ltb 0 c ≡ b → formed (mk c l) (any m) ≡ true → All (λ t. c ≡ 0) m → Right sem-kind v m w take (decide (mk c l) v m w take)
     go true [] z g a = rw z tt
     go true (x ∷ m) z g a = absurd (omega (arith, ltb-true 0 c z, a .0))
     go false m z g a = let h : c ≤ 0 = ltb-false 0 c z in rw z (omega arith, a)
 right c l v q w tryTake f r = go (ltb 0 c) q refl r
   where
-    go : (b : Bool) (m : List ℕ) → ltb 0 c ≡ b → All (λ t. c ≡ 0) m → Right sem-kind v m tryTake (decide (mk c l) v m w tryTake)
+    go : (b : Bool) (m : List ℕ) → ltb 0 c ≡ b → All (λ t. c ≡ 0) m → Right sem-kind v m w tryTake (decide (mk c l) v m w tryTake)
     go true [] z a = rw z tt
     go true (x ∷ m) z a = absurd (omega (arith, ltb-true 0 c z, a .0))
     go false m z a = rw z tt
@@ -139,7 +139,7 @@ pub sem-lawful : Lawful sem-kind
 sem-lawful =
     record {
       sound = λ n v q w k f. sound (n .count) (n .limit) v q w k f;
-      right = λ n v q w k f r. right (n .count) (n .limit) v q w k f r;
+      right = λ n v q w k f d r. right (n .count) (n .limit) v q w k f r;
       fewer = λ n f. nobody (n .count) (n .limit) f;
       made = made;
       booked = λ n v q w k f. books-right n v q w k;

@@ -23,7 +23,7 @@ use Rattle.kind.specs.Object.{Out, refused, thread, carried}
 use Rattle.kind.proofs.Picks.{any-joined, any-map, left-sub, left-map}
 use Rattle.system.specs.System.{State, absent, running, ready, waiting, number, Slot, vacant, object, Sys, upd, states, unless, serve, outcome, verdict, visited, called}
 use Rattle.system.specs.Rules.{times, on, Fine}
-use Rattle.system.proofs.Times.{times-joined, times-pick, held, unheld, not-held, on-is, on-one, all-list, list-all}
+use Rattle.system.proofs.Times.{times-joined, times-pick, held, unheld, not-held, on-is, on-one, all-list, list-all, distinct}
 
 pub all-two : (P Q R : ℕ → Type 0) (l : List ℕ) → ((y : ℕ) → P y → Q y → R y) → All P l → All Q l → All R l
 all-two P Q R [] f a b = tt
@@ -163,17 +163,17 @@ module _ {K : Kind} (s : Sys K) (g : Fine s) (i o : ℕ) (n : K .Num) (h : s .sl
     known-joined t false e c = c
 
     -- the others' wishes are as they were
-    wish-off : (k : K .Num) (l : List ℕ) → holds i l ≡ false → Rightly K k (s .wish) (map ident l) → All (λ y. K .Blocked k (upd (s .wish) i x (ident y))) l
+    wish-off : (k : K .Num) (l : List ℕ) → holds i l ≡ false → Rightly K k (s .wish) (map ident l) → All (λ y. K .Blocked k (ident y) (upd (s .wish) i x (ident y))) l
     wish-off k l z a =
-        all-two (λ y. Other i y) (λ y. K .Blocked k (s .wish (ident y))) (λ y. K .Blocked k (upd (s .wish) i x (ident y))) l
-        (λ y n b. rw (ne-eqb i (ident y) (λ e. n (sym e))) b) (holds-none i l z) (all-list (λ t. K .Blocked k (s .wish t)) l a)
+        all-two (λ y. Other i y) (λ y. K .Blocked k (ident y) (s .wish (ident y))) (λ y. K .Blocked k (ident y) (upd (s .wish) i x (ident y))) l
+        (λ y n b. rw (ne-eqb i (ident y) (λ e. n (sym e))) b) (holds-none i l z) (all-list (λ t. K .Blocked k t (s .wish t)) l a)
 
-    waits : K .formed m true ≡ true → K .Blocked m x → Rightly K m (s .wish) (map ident q) → Fine (serve s i o wait joins)
+    waits : K .formed m true ≡ true → K .Blocked m i x → Rightly K m (s .wish) (map ident q) → Fine (serve s i o wait joins)
     waits f b k =
         changed wait joins (λ t. times-joined t w q ∙ rw its (here-joined t (eqb i t) refl)) (λ y t n. there-joined y t n (eqb i t) refl)
-        (list-all (λ t. K .Blocked m (upd (s .wish) i x t)) (joined w q)
-        (all-insert prio (λ y. K .Blocked m (upd (s .wish) i x (ident y))) w q (rw (its, eq-eqb i i refl) b) (wish-off m q (not-held i q (nowhere o)) k)))
-        (λ y l z n. list-all (λ t. K .Blocked l (upd (s .wish) i x t)) (s .queue y) (wish-off l (s .queue y) (not-held i (s .queue y) (nowhere y)) (g .kept y l z)))
+        (list-all (λ t. K .Blocked m t (upd (s .wish) i x t)) (joined w q)
+        (all-insert prio (λ y. K .Blocked m (ident y) (upd (s .wish) i x (ident y))) w q (rw (its, eq-eqb i i refl) b) (wish-off m q (not-held i q (nowhere o)) k)))
+        (λ y l z n. list-all (λ t. K .Blocked l t (upd (s .wish) i x t)) (s .queue y) (wish-off l (s .queue y) (not-held i (s .queue y) (nowhere y)) (g .kept y l z)))
         (rw (any-joined w q) f)
         (well-joined w q (g .queues o) (rw its (not-held i q (nowhere o))) few (rw (prio-entry (s .prio i) i small) (g .known i there-is .1)))
         (all-insert prio (λ y. y ≡ entry (s .prio (ident y)) (ident y)) w q (rw its refl) (g .own o)) (λ t z. known-joined t (eqb i t) refl z)
@@ -183,9 +183,9 @@ module _ {K : Kind} (s : Sys K) (g : Fine s) (i o : ℕ) (n : K .Num) (h : s .sl
       → Fine (unless (carried (thread i (s .prio i) 1) (K .decide n (s .wish) (map ident q) i k) n q .turn .code) s (serve s i o (K .decide n (s .wish) (map ident q) i k) (carried (thread i (s .prio i) 1) (K .decide n (s .wish) (map ident q) i k) n q)))
   by-verdict law k run =
       let f : K .formed n (any (map ident q)) ≡ true = rw (any-map ident q) (g .formed o n h) in
-      go (K .decide n (s .wish) (map ident q) i k) (law .sound n (s .wish) (map ident q) i k f) (law .right n (s .wish) (map ident q) i k f (g .kept o n h))
+      go (K .decide n (s .wish) (map ident q) i k) (law .sound n (s .wish) (map ident q) i k f) (law .right n (s .wish) (map ident q) i k f (distinct q (g .queues o .single)) (g .kept o n h))
     where
-      go : (d : Verdict (K .Num) (K .Wish)) → Sound K (map ident q) d → Right K (s .wish) (map ident q) k d
+      go : (d : Verdict (K .Num) (K .Wish)) → Sound K (map ident q) d → Right K (s .wish) (map ident q) i k d
           → Fine (unless (carried (thread i (s .prio i) 1) d n q .turn .code) s (serve s i o d (carried (thread i (s .prio i) 1) d n q)))
       go (deny (negsuc c)) a b = g
       go (deny (pos c)) a b =

@@ -21,7 +21,7 @@ use Rattle.kind.proofs.Picks.{any-map, gone-map}
 use Rattle.system.specs.System.{State, absent, running, ready, waiting, number, Slot, vacant, object, Sys, Op, invoke, both, dispatch, yield, expire, spawn, create, deed, wishes, unless, serve, outcome, verdict, visited, called, dispatched, yielded, expired, spawned, created, free, gone-by, answers, Answer, done, denied, reply, step, Reply, refuse, paired}
 use Rattle.system.specs.Rules.{Fine}
 use Rattle.system.specs.Life.{Calls, direct, former, latter, Life, stays, began, woken, late, back, aside, born, Refuses}
-use Rattle.system.proofs.Times.{held, times-pick, on-is}
+use Rattle.system.proofs.Times.{held, times-pick, on-is, distinct}
 use Rattle.system.proofs.Calls.{runs, barred, granted, called-fine}
 
 never : {A : Type 0} {x y : ℤ} → done x ≡ denied y → A
@@ -99,7 +99,7 @@ module _ {K : Kind} (law : Lawful K) (s : Sys K) (g : Fine s) (i o : ℕ) (k : K
   abbrev q : List ℕ
   q = s .queue o
 
-  by-verdict : (d : Verdict (K .Num) (K .Wish)) → s .state i ≡ running → Right K (s .wish) (map ident q) k d
+  by-verdict : (d : Verdict (K .Num) (K .Wish)) → s .state i ≡ running → Right K (s .wish) (map ident q) i k d
       → Does K (s .wish) i o k t (s .state t) (unless (carried (thread i (s .prio i) 1) d n q .turn .code) s (serve s i o d (carried (thread i (s .prio i) 1) d n q)) .state t)
   by-verdict (deny (negsuc c)) r a = nothing refl
   by-verdict (deny (pos c)) r a = nothing refl
@@ -138,7 +138,7 @@ called-does {K} law s g i o k t = go (s .slot o) refl
         by (pos c) z =
             rw (granted s i o k n (g .formed o n h) c z)
             (by-verdict law s g i o k n h t (verdict s i o k n) (runs (s .prio i) (s .state i) c z)
-            (law .right n (s .wish) (map ident (s .queue o)) i k (rw (any-map ident (s .queue o)) (g .formed o n h)) (g .kept o n h)))
+            (law .right n (s .wish) (map ident (s .queue o)) i k (rw (any-map ident (s .queue o)) (g .formed o n h)) (distinct (s .queue o) (g .queues o .single)) (g .kept o n h)))
 
 -- a call changes no wish but its caller's
 called-wish : {K : Kind} (s : Sys K) (i o : ℕ) (k : K .Call) (t : ℕ) → (t ≡ i → ⊥) → called s i o k .0 .wish t ≡ s .wish t

@@ -6,7 +6,7 @@ use mathlib.Core.List.{List}
 use Prim.Native.Nat.{ℕ}
 use Rattle.seq.specs.List.{any}
 use Rattle.kind.specs.Verdict.{keep, park, wake, Verdict, deny, allow}
-use Rattle.kind.specs.Kind.{Lawful, Rightly, Sound, Right, Booked}
+use Rattle.kind.specs.Kind.{Lawful, Rightly, Distinct, Sound, Right, Booked}
 use Rattle.sem.proofs.Law.{sem-lawful}
 use Rattle.mutex.proofs.Law.{mutex-lawful}
 use Rattle.condvar.proofs.Law.{condvar-lawful}
@@ -27,19 +27,19 @@ module _ (A B : Member) (a : Lawful (A .kind)) (b : Lawful (B .kind)) where
   sound-right q (allow n (park x) r) s = s
   sound-right q (allow n (wake p f) r) s = s
 
-  right-left : (v : ℕ → A .kind .Wish ⊎ B .kind .Wish) (q : List ℕ) (k : A .kind .Call) (d : Verdict (A .kind .Num) (A .kind .Wish))
-      → Right (A .kind) (λ t. onLeft (A .idle) (v t)) q k d → Right ((A ⊕ B) .kind) v q (inl k) (mapped inl inl d)
-  right-left v q k (deny r) s = tt
-  right-left v q k (allow n keep r) s = s
-  right-left v q k (allow n (park x) r) s = s
-  right-left v q k (allow n (wake p f) r) s = s
+  right-left : (v : ℕ → A .kind .Wish ⊎ B .kind .Wish) (q : List ℕ) (w : ℕ) (k : A .kind .Call) (d : Verdict (A .kind .Num) (A .kind .Wish))
+      → Right (A .kind) (λ t. onLeft (A .idle) (v t)) q w k d → Right ((A ⊕ B) .kind) v q w (inl k) (mapped inl inl d)
+  right-left v q w k (deny r) s = tt
+  right-left v q w k (allow n keep r) s = s
+  right-left v q w k (allow n (park x) r) s = s
+  right-left v q w k (allow n (wake p f) r) s = s
 
-  right-right : (v : ℕ → A .kind .Wish ⊎ B .kind .Wish) (q : List ℕ) (k : B .kind .Call) (d : Verdict (B .kind .Num) (B .kind .Wish))
-      → Right (B .kind) (λ t. onRight (B .idle) (v t)) q k d → Right ((A ⊕ B) .kind) v q (inr k) (mapped inr inr d)
-  right-right v q k (deny r) s = tt
-  right-right v q k (allow n keep r) s = s
-  right-right v q k (allow n (park x) r) s = s
-  right-right v q k (allow n (wake p f) r) s = s
+  right-right : (v : ℕ → A .kind .Wish ⊎ B .kind .Wish) (q : List ℕ) (w : ℕ) (k : B .kind .Call) (d : Verdict (B .kind .Num) (B .kind .Wish))
+      → Right (B .kind) (λ t. onRight (B .idle) (v t)) q w k d → Right ((A ⊕ B) .kind) v q w (inr k) (mapped inr inr d)
+  right-right v q w k (deny r) s = tt
+  right-right v q w k (allow n keep r) s = s
+  right-right v q w k (allow n (park x) r) s = s
+  right-right v q w k (allow n (wake p f) r) s = s
 
   sound : (n : A .kind .Num ⊎ B .kind .Num) (v : ℕ → A .kind .Wish ⊎ B .kind .Wish) (q : List ℕ) (w : ℕ) (k : A .kind .Call ⊎ B .kind .Call)
       → (A ⊕ B) .kind .formed n (any q) ≡ true → Sound ((A ⊕ B) .kind) q ((A ⊕ B) .kind .decide n v q w k)
@@ -49,11 +49,11 @@ module _ (A B : Member) (a : Lawful (A .kind)) (b : Lawful (B .kind)) where
   sound (inr n) v q w (inr k) f = sound-right q (B .kind .decide n (λ t. onRight (B .idle) (v t)) q w k) (b .sound n (λ t. onRight (B .idle) (v t)) q w k f)
 
   right : (n : A .kind .Num ⊎ B .kind .Num) (v : ℕ → A .kind .Wish ⊎ B .kind .Wish) (q : List ℕ) (w : ℕ) (k : A .kind .Call ⊎ B .kind .Call)
-      → (A ⊕ B) .kind .formed n (any q) ≡ true → Rightly ((A ⊕ B) .kind) n v q → Right ((A ⊕ B) .kind) v q k ((A ⊕ B) .kind .decide n v q w k)
-  right (inl m) v q w (inl k) f r = right-left v q k (A .kind .decide m (λ t. onLeft (A .idle) (v t)) q w k) (a .right m (λ t. onLeft (A .idle) (v t)) q w k f r)
-  right (inl m) v q w (inr k) f r = tt
-  right (inr n) v q w (inl k) f r = tt
-  right (inr n) v q w (inr k) f r = right-right v q k (B .kind .decide n (λ t. onRight (B .idle) (v t)) q w k) (b .right n (λ t. onRight (B .idle) (v t)) q w k f r)
+      → (A ⊕ B) .kind .formed n (any q) ≡ true → Distinct q → Rightly ((A ⊕ B) .kind) n v q → Right ((A ⊕ B) .kind) v q w k ((A ⊕ B) .kind .decide n v q w k)
+  right (inl m) v q w (inl k) f d r = right-left v q w k (A .kind .decide m (λ t. onLeft (A .idle) (v t)) q w k) (a .right m (λ t. onLeft (A .idle) (v t)) q w k f d r)
+  right (inl m) v q w (inr k) f d r = tt
+  right (inr n) v q w (inl k) f d r = tt
+  right (inr n) v q w (inr k) f d r = right-right v q w k (B .kind .decide n (λ t. onRight (B .idle) (v t)) q w k) (b .right n (λ t. onRight (B .idle) (v t)) q w k f d r)
 
   fewer : (n : A .kind .Num ⊎ B .kind .Num) → (A ⊕ B) .kind .formed n true ≡ true → (A ⊕ B) .kind .formed n false ≡ true
   fewer (inl m) f = a .fewer m f

@@ -8,8 +8,10 @@ use lib.Dec.{eqb, ltb}
 use lib.ListN.{take, drop}
 use borrow.Author.Tests.{eq-eqb, ne-eqb, eqb-true, eqb-false}
 use Rattle.seq.specs.List.{chosen, others, All}
-use Rattle.seq.proofs.Order.{clash, cond-same}
-use Rattle.wait_queue.specs.Queue.{prio, ident, holds, joined, without}
+use Rattle.seq.proofs.Order.{clash, cond-same, all-map}
+use Rattle.wait_queue.specs.Queue.{prio, ident, holds, joined, without, Single}
+use Rattle.wait_queue.proofs.Well.{Other, holds-none}
+use Rattle.kind.specs.Kind.{Distinct}
 use Rattle.kind.specs.Verdict.{Pick, upTo, everybody, those, gone, left}
 use Rattle.system.specs.System.{State, absent, running, ready, waiting, upd}
 use Rattle.system.specs.Rules.{times, on}
@@ -129,3 +131,9 @@ all-list P (x ∷ q) a = (a .0, all-list P q (a .1))
 pub list-all : (P : ℕ → Type 0) (q : List ℕ) → All (λ x. P (ident x)) q → All P (map ident q)
 list-all P [] a = tt
 list-all P (x ∷ q) a = (a .0, list-all P q (a .1))
+
+-- who stands in a queue once is no other there
+pub distinct : (q : List ℕ) → Single q → Distinct (map ident q)
+distinct [] s = tt
+distinct (x ∷ q) s =
+    (list-all (λ u. ident x ≡ u → ⊥) q (all-map (Other (ident x)) (λ y. ident x ≡ ident y → ⊥) q (λ y n e. n (sym e)) (holds-none (ident x) q (s .0))), distinct q (s .1))

@@ -52,9 +52,9 @@ module _ (A B : Member) where
   decideSum (inr n) v q w (inl k) = deny einval
   decideSum (inr n) v q w (inr k) = mapped inr inr (B .kind .decide n (λ t. onRight (B .idle) (v t)) q w k)
 
-  abbrev pub BlockedSum : A .kind .Num ⊎ B .kind .Num → A .kind .Wish ⊎ B .kind .Wish → Type 0
-  BlockedSum (inl m) x = A .kind .Blocked m (onLeft (A .idle) x)
-  BlockedSum (inr n) x = B .kind .Blocked n (onRight (B .idle) x)
+  abbrev pub BlockedSum : A .kind .Num ⊎ B .kind .Num → ℕ → A .kind .Wish ⊎ B .kind .Wish → Type 0
+  BlockedSum (inl m) t x = A .kind .Blocked m t (onLeft (A .idle) x)
+  BlockedSum (inr n) t x = B .kind .Blocked n t (onRight (B .idle) x)
 
   abbrev pub OwesSum : A .kind .Call ⊎ B .kind .Call → A .kind .Wish ⊎ B .kind .Wish → ℤ → Type 0
   OwesSum (inl k) x r = A .kind .Owes k (onLeft (A .idle) x) r
