@@ -4,7 +4,7 @@ use mathlib.Core.Bool.{Bool, true, false, cond}
 use mathlib.Core.List.{List, [], _∷_}
 use Prim.Native.Nat.{ℕ}
 use lib.Dec.{ltb}
-use lib.IntN.{ℤ}
+use lib.IntN.{ℤ, pos, negsuc}
 use Rattle.seq.specs.List.{any, All}
 use Rattle.thread.specs.Code.{einval}
 use Rattle.wait_queue.specs.Turn.{waits}
@@ -72,9 +72,10 @@ Right K v q w k (allow n keep r) = Rightly K n v q
 Right K v q w k (allow n (park x) r) = K .Blocked n w x × Rightly K n v q
 Right K v q w k (allow n (wake p f) r) = Rightly K n v (left itself p q) × All (λ t. K .Owes k (v t) (f t)) (gone itself p q)
 
--- a verdict on the call k of the thread w leaves what the books say
+-- a verdict on the call k of the thread w leaves what the books say, and a refusal's code is below 0
 abbrev pub Booked : (K : Kind) → K .Num → List ℕ → ℕ → K .Call → Verdict (K .Num) (K .Wish) → Type 0
-Booked K n q w k (deny r) = Unit {0}
+Booked K n q w k (deny (pos r)) = ⊥
+Booked K n q w k (deny (negsuc r)) = Unit {0}
 Booked K n q w k (allow m keep r) = K .books n w k r [] ≡ balanced m
 Booked K n q w k (allow m (park x) r) = K .books n w k waits [] ≡ balanced m
 Booked K n q w k (allow m (wake p f) r) = K .books n w k r (gone itself p q) ≡ balanced m

@@ -1,5 +1,5 @@
 -- The books of a mutex are right: what a call leaves is what its answer, and whom it woke, tell. Assumes nothing.
-use mathlib.Core.Path.{_≡_, refl, sym}
+use mathlib.Core.Path.{_≡_, refl}
 use mathlib.Core.Bool.{Bool, true, false, cond}
 use mathlib.Core.List.{List, [], _∷_}
 use Prim.Native.Nat.{ℕ, suc, _-_}
@@ -7,7 +7,7 @@ use lib.Dec.{ltb, eqb}
 use Rattle.thread.specs.Code.{ok, eperm, ebusy, edeadlk, eoverflow}
 use Rattle.wait_queue.specs.Turn.{waits}
 use Rattle.kind.specs.Verdict.{keep, park, Verdict, deny, allow}
-use Rattle.kind.specs.Kind.{Booked, balanced}
+use Rattle.kind.specs.Kind.{Booked}
 use Rattle.mutex.specs.Mutex.{Owner, nobody, thread, Mutex, Call, lock, tryLock, unlock, release, owns, maxCount, released, locks, passes, unlocks, decide, mutex-kind}
 
 abbrev pub mk : Owner → ℕ → Mutex

@@ -4,9 +4,8 @@ use mathlib.Core.Bool.{Bool, true, false}
 use mathlib.Core.List.{List, [], _∷_}
 use Prim.Native.Nat.{ℕ}
 use lib.Dec.{ltb}
-use Rattle.seq.specs.List.{any}
 use Rattle.kind.specs.Kind.{Booked}
-use Rattle.sem.specs.Sem.{Sem, Call, give, take, tryTake, reset, formed, decide, sem-kind}
+use Rattle.sem.specs.Sem.{Sem, Call, give, take, tryTake, reset, decide, sem-kind}
 
 pub books-right : (s : Sem) (v : ℕ → Unit {0}) (q : List ℕ) (w : ℕ) (k : Call) → Booked sem-kind s q w k (decide s v q w k)
 books-right s v [] w give = go (ltb (s .count) (s .limit)) refl

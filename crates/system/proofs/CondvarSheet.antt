@@ -1,6 +1,6 @@
 -- The data sheet of a condition variable holds of our step, and of no other kernel. Assumes nothing.
 use mathlib.Core.Path.{_≡_, refl, sym, ap, _∙_}
-use mathlib.Core.List.{List, map}
+use mathlib.Core.List.{[], _∷_, map}
 use Prim.Native.Nat.{ℕ}
 use lib.IntN.{pos}
 use lib.ListN.{length}
@@ -19,6 +19,7 @@ use Rattle.system.specs.CondvarRules.{CondvarRules}
 use Rattle.system.specs.Rtos.{condvars}
 use Rattle.system.proofs.Effects as effects
 use Rattle.system.proofs.Same.{one-wait, one-wake}
+use Rattle.system.proofs.Bests.{Turnwise}
 use Rattle.system.proofs.Sheets.{Fits, Sheet}
 
 module _ {K : Kind} (P : Part condvar-kind K) (h : Fits P) (s : Sys K) (g : Fine s) (i o : ℕ) (n : Unit {0}) (e : s .slot o ≡ object (P .num n)) (r : s .state i ≡ running) where
@@ -49,10 +50,19 @@ condvar-fixes P f g s i o broadcast a b = a .broadcasts ∙ sym (b .broadcasts)
 condvar-fixes P f g s i o wait a b = one-wait f g s i o (P .call wait) (P .wish tt) (a .waits) (b .waits)
 condvar-fixes P f g s i o tryWait a b = a .tries ∙ sym (b .tries)
 
+-- it wakes from the front
+turnwise : Turnwise condvar-kind
+turnwise n v [] w signal = tt
+turnwise n v (t ∷ q) w signal = tt
+turnwise n v q w broadcast = tt
+turnwise n v q w wait = tt
+turnwise n v q w tryWait = tt
+
 pub condvar-sheet : Sheet condvars
 condvar-sheet =
     record {
       lawful = condvar-lawful;
+      turnwise = turnwise;
       makes = λ n e. refl;
       made = λ n e. tt;
       foreign = λ n v q w k e. absurd e;

@@ -7,11 +7,11 @@ use Prim.Native.Nat.{ℕ}
 use lib.IntN.{ℤ}
 use Rattle.seq.proofs.Order.{clash}
 use Rattle.kind.specs.Kind.{Kind}
-use Rattle.system.specs.System.{State, absent, running, ready, waiting, Slot, vacant, object, Sys, Op, invoke, both, dispatch, yield, expire, spawn, create, Answer, done, denied, Reply, Kernel, step, after}
+use Rattle.system.specs.System.{State, absent, running, ready, waiting, Slot, vacant, object, Sys, Op, invoke, both, dispatch, yield, expire, spawn, create, Answer, done, denied, Reply, Kernel, reached, step, after}
 use Rattle.system.specs.Part.{whole}
 use Rattle.system.specs.Sum.{Member}
 use Rattle.system.specs.Rules.{Fine, Start}
-use Rattle.system.specs.Laws.{LawsAt, Laws, reached}
+use Rattle.system.specs.Laws.{LawsAt, Laws}
 use Rattle.system.specs.Determined.{Determined}
 use Rattle.system.proofs.Steps.{always}
 use Rattle.system.proofs.Same.{alike}

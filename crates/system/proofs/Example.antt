@@ -16,7 +16,7 @@ use Rattle.system.specs.Rules.{Fine, Start}
 use Rattle.system.specs.Rtos.{rtos, aSem, aMutex, aCondvar, semCall, mutexCall, condvarCall}
 use Rattle.system.specs.Link.{Is}
 use Rattle.system.proofs.Steps.{always}
-use Rattle.system.proofs.Sum.{rtos-lawful}
+use Rattle.system.proofs.Rtos.{rtos-lawful}
 
 -- no threads and no objects
 abbrev bare : Sys rtos

@@ -37,37 +37,40 @@ use Rattle.futex.specs.Post.{wakeCall, wakeOut, setOut}
 use Rattle.system.specs.Sum.{Member, _⊕_, mapped, onRight}
 use Rattle.system.specs.System.{State, running, number, vacant, Sys, create, reply, outcome, verdict, called, answers}
 use Rattle.system.specs.Rules.{Fine}
-use Rattle.system.specs.Rtos.{sems, mutexes, condvars, futexes, rtos, aSem, aMutex, aCondvar, aFutex, semCall, mutexCall, condvarCall, futexCall}
+use Rattle.system.specs.Rtos.{sems, mutexes, condvars, futexes, nones, rtos, aSem, aMutex, aCondvar, aFutex, semCall, mutexCall, condvarCall, futexCall}
 use Rattle.system.specs.Link.{wrapped, Is, HandsOut, Steps, Pairs, Turns}
 use Rattle.system.proofs.Calls.{runs, barred, called-fine}
-use Rattle.system.proofs.Sum.{rtos-lawful}
+use Rattle.system.proofs.Rtos.{rtos-lawful}
 use Rattle.system.proofs.Woken.{parked-none, wakes-on}
 use Rattle.system.proofs.Link.{call-left, call-right, Unparked, unparked, tells, steps, by-thread, by-name, by-room, prio-kept, is-off, still, makes}
 
 -- an object of each kind does in the system what its kind says
 module _ (v : ℕ → rtos .Wish) (w : Caller) (q : List ℕ) where
   pub sem-part : (k : sem.Call) (n : Sem) → call rtos v w (semCall k) (aSem n) q ≡ wrapped aSem (call sem-kind plain w k n q)
-  sem-part k n = call-left sems (mutexes ⊕ condvars ⊕ futexes) v w q k n
+  sem-part k n = call-left sems (mutexes ⊕ condvars ⊕ futexes ⊕ nones) v w q k n
 
-  abbrev rest : ℕ → (mutexes ⊕ condvars ⊕ futexes) .kind .Wish
-  rest t = onRight ((mutexes ⊕ condvars ⊕ futexes) .idle) (v t)
+  abbrev rest : ℕ → (mutexes ⊕ condvars ⊕ futexes ⊕ nones) .kind .Wish
+  rest t = onRight ((mutexes ⊕ condvars ⊕ futexes ⊕ nones) .idle) (v t)
 
-  abbrev last : ℕ → (condvars ⊕ futexes) .kind .Wish
-  last t = onRight ((condvars ⊕ futexes) .idle) (rest t)
+  abbrev last : ℕ → (condvars ⊕ futexes ⊕ nones) .kind .Wish
+  last t = onRight ((condvars ⊕ futexes ⊕ nones) .idle) (rest t)
+
+  abbrev ends : ℕ → (futexes ⊕ nones) .kind .Wish
+  ends t = onRight ((futexes ⊕ nones) .idle) (last t)
 
   pub mutex-part : (k : mutex.Call) (n : Mutex) → call rtos v w (mutexCall k) (aMutex n) q ≡ wrapped aMutex (call mutex-kind plain w k n q)
   mutex-part k n =
-      call-right sems (mutexes ⊕ condvars ⊕ futexes) v w q (inl k) (inl n) ∙ ap (wrapped inr) (call-left mutexes (condvars ⊕ futexes) rest w q k n)
+      call-right sems (mutexes ⊕ condvars ⊕ futexes ⊕ nones) v w q (inl k) (inl n) ∙ ap (wrapped inr) (call-left mutexes (condvars ⊕ futexes ⊕ nones) rest w q k n)
 
   pub condvar-part : (k : condvar.Call) (n : Unit {0}) → call rtos v w (condvarCall k) aCondvar q ≡ wrapped (λ x. aCondvar) (call condvar-kind plain w k n q)
   condvar-part k n =
-      call-right sems (mutexes ⊕ condvars ⊕ futexes) v w q (inr (inl k)) (inr (inl n))
-      ∙ ap (wrapped inr) (call-right mutexes (condvars ⊕ futexes) rest w q (inl k) (inl n) ∙ ap (wrapped inr) (call-left condvars futexes last w q k n))
+      call-right sems (mutexes ⊕ condvars ⊕ futexes ⊕ nones) v w q (inr (inl k)) (inr (inl n))
+      ∙ ap (wrapped inr) (call-right mutexes (condvars ⊕ futexes ⊕ nones) rest w q (inl k) (inl n) ∙ ap (wrapped inr) (call-left condvars (futexes ⊕ nones) last w q k n))
 
   pub futex-part : (k : futex.Call) (n : Futex) → call rtos v w (futexCall k) (aFutex n) q ≡ wrapped aFutex (call futex-kind plain w k n q)
   futex-part k n =
-      call-right sems (mutexes ⊕ condvars ⊕ futexes) v w q (inr (inr k)) (inr (inr n))
-      ∙ ap (wrapped inr) (call-right mutexes (condvars ⊕ futexes) rest w q (inr k) (inr n) ∙ ap (wrapped inr) (call-right condvars futexes last w q k n))
+      call-right sems (mutexes ⊕ condvars ⊕ futexes ⊕ nones) v w q (inr (inr (inl k))) (inr (inr (inl n)))
+      ∙ ap (wrapped inr) (call-right mutexes (condvars ⊕ futexes ⊕ nones) rest w q (inr (inl k)) (inr (inl n)) ∙ ap (wrapped inr) (call-right condvars (futexes ⊕ nones) last w q (inl k) (inl n) ∙ ap (wrapped inr) (call-left futexes nones ends w q k n)))
 
 -- none of these calls makes the caller wait
 passes-unparked : (q : List ℕ) → Unparked (passes q)
@@ -161,7 +164,7 @@ module _ (s : Sys rtos) (g : Fine s) (i o : ℕ) (h e : List ℕ) (r : ℤ) (h' 
           (unparked (any (map ident (s .queue o))) _ _ tt tt)
 
 abbrev others : Member
-others = mutexes ⊕ condvars ⊕ futexes
+others = mutexes ⊕ condvars ⊕ futexes ⊕ nones
 
 -- nor does a release in the system
 release-unparked : (s : Sys rtos) (i o : ℕ) (n : Mutex) → Unparked (verdict s i o (mutexCall mutex.release) (aMutex n))

@@ -1,8 +1,9 @@
 -- The data sheet of a futex holds of our step, and of no other kernel. Assumes nothing.
 use mathlib.Core.Path.{_≡_, refl, sym, ap, subst, _∙_}
 use mathlib.Core.Logic.{⊎-elim}
-use mathlib.Core.List.{List, map}
+use mathlib.Core.List.{[], _∷_, map}
 use Prim.Native.Nat.{ℕ}
+use lib.Dec.{eqb}
 use lib.IntN.{pos}
 use lib.ListN.{length}
 use borrow.Author.Tests.{eq-eqb, ne-eqb, lt-ltb, ltb-true}
@@ -21,6 +22,7 @@ use Rattle.system.specs.FutexRules.{FutexRules}
 use Rattle.system.specs.Rtos.{futexes}
 use Rattle.system.proofs.Effects as effects
 use Rattle.system.proofs.Same.{alike, one-wait, one-wake}
+use Rattle.system.proofs.Bests.{Turnwise, in-turn}
 use Rattle.system.proofs.Sheets.{Fits, Sheet}
 
 module _ {K : Kind} (P : Part futex-kind K) (h : Fits P) (s : Sys K) (g : Fine s) (i o : ℕ) (n : Futex) (e : s .slot o ≡ object (P .num n)) (r : s .state i ≡ running) where
@@ -59,10 +61,19 @@ futex-fixes P f g s i o n wakeOne a b = one-wake f g s i o (P .call wakeOne) (po
 futex-fixes P f g s i o n wakeAll a b = a .wakesAll ∙ sym (b .wakesAll)
 futex-fixes P f g s i o n (set x) a b = a .sets x ∙ sym (b .sets x)
 
+-- it wakes from the front
+turnwise : Turnwise futex-kind
+turnwise n v q w (wait x) = in-turn (eqb (n .val) x) _ _ tt tt
+turnwise n v [] w wakeOne = tt
+turnwise n v (t ∷ q) w wakeOne = tt
+turnwise n v q w wakeAll = tt
+turnwise n v q w (set x) = tt
+
 pub futex-sheet : Sheet futexes
 futex-sheet =
     record {
       lawful = futex-lawful;
+      turnwise = turnwise;
       makes = λ n e. lt-ltb (n .val) 4294967296 e;
       made = λ n e. ltb-true (n .val) 4294967296 e;
       foreign = λ n v q w k e. absurd e;

@@ -1,14 +1,13 @@
 -- Our step keeps the laws of any system whose members have their data sheets. Assumes nothing.
-use mathlib.Core.Path.{_≡_, refl, ap, _∙_}
+use mathlib.Core.Path.{_≡_, refl}
 use mathlib.Core.Bool.{Bool, true, false}
-use mathlib.Core.List.{List, [], _∷_, map}
 use Prim.Native.Nat.{ℕ}
 use Rattle.thread.specs.Code.{einval}
-use Rattle.system.specs.System.{Sys, Op, refuse, free, created, step, after}
+use Rattle.system.specs.System.{Sys, refuse, free, created, step, after}
 use Rattle.system.specs.Part.{whole}
 use Rattle.system.specs.Sum.{Member}
 use Rattle.system.specs.Rules.{Fine}
-use Rattle.system.specs.Laws.{OfObjects, LawsAt, reached, Laws}
+use Rattle.system.specs.Laws.{OfObjects, LawsAt, Laws}
 use Rattle.system.proofs.Steps.{always}
 use Rattle.system.proofs.ThreadLaws.{threads, callers, pairs}
 use Rattle.system.proofs.Effects as effects
@@ -39,10 +38,5 @@ module _ {M : Member} (h : Sheet M) where
         rules = λ i o n e r. h .keeps (whole (M .kind)) (whole-fits (M .kind)) s g i o n e r;
       }
 
-  -- its histories are ours
-  reached-after : (s : Sys (M .kind)) (past : List (Op (M .kind))) → reached step s past ≡ after s past
-  reached-after s [] = refl
-  reached-after s (x ∷ past) = ap (λ (u : Sys (M .kind)). step u x .0) (reached-after s past)
-
   pub laws : Laws M step
-  laws s b past = rw (reached-after s past) (laws-at (after s past) (always (h .lawful) s b past))
+  laws s b past = laws-at (after s past) (always (h .lawful) s b past)

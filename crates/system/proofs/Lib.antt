@@ -4,6 +4,9 @@ pub mod Steps
 pub mod Sum
 pub mod Orders
 pub mod Wakes
+pub mod Lives
+pub mod Bests
+pub mod Ledgers
 pub mod Places
 pub mod Effects
 pub mod ThreadLaws
@@ -16,13 +19,12 @@ pub mod FutexSheet
 pub mod Laws
 pub mod SameThreads
 pub mod Determined
+pub mod Callers
+pub mod SemTheorems
+pub mod MutexTheorems
 pub mod Rtos
-pub mod Waits
-pub mod Lives
-pub mod MutexCalls
-pub mod Mutexes
-pub mod MutexExample
 pub mod Theorems
+pub mod MutexExample
 pub mod Woken
 pub mod Link
 pub mod Functions

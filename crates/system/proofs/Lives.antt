@@ -1,7 +1,7 @@
 -- A refusal changes nothing, and what a step can do to a thread. Assumes nothing.
 use mathlib.Core.Path.{_≡_, refl, sym, ap, _∙_}
 use mathlib.Core.Bool.{Bool, true, false, cond}
-use mathlib.Core.List.{List, [], _∷_, map}
+use mathlib.Core.List.{List, [], _∷_, _++_, map}
 use Prim.Native.Nat.{ℕ}
 use native.Mathlib.Omega.{arith}
 use lib.Dec.{eqb, ltb}
@@ -18,9 +18,10 @@ use Rattle.kind.specs.Verdict.{gone, keep, park, wake, Verdict, deny, allow}
 use Rattle.kind.specs.Kind.{Kind, Lawful, Right}
 use Rattle.kind.specs.Object.{thread, carried}
 use Rattle.kind.proofs.Picks.{any-map, gone-map}
-use Rattle.system.specs.System.{State, absent, running, ready, waiting, number, Slot, vacant, object, Sys, Op, invoke, both, dispatch, yield, expire, spawn, create, deed, wishes, unless, serve, outcome, verdict, visited, called, dispatched, yielded, expired, spawned, created, free, gone-by, answers, Answer, done, denied, reply, step, Reply, refuse, paired}
+use Rattle.system.specs.System.{State, absent, running, ready, waiting, number, Slot, vacant, object, Sys, Op, invoke, both, dispatch, yield, expire, spawn, create, deed, wishes, unless, serve, outcome, verdict, visited, called, dispatched, yielded, expired, spawned, created, free, gone-by, answers, Answer, done, denied, reply, step, Woken, Reply, accept, refuse, paired, placed}
+use Rattle.system.specs.System as system
 use Rattle.system.specs.Rules.{Fine}
-use Rattle.system.specs.Life.{Calls, direct, former, latter, Life, stays, began, woken, late, back, aside, born, Refuses}
+use Rattle.system.specs.Life.{Calls, direct, former, latter, Life, stays, began, woken, late, back, aside, born}
 use Rattle.system.proofs.Times.{held, times-pick, on-is, distinct}
 use Rattle.system.proofs.Calls.{runs, barred, granted, called-fine}
 
@@ -32,8 +33,7 @@ module _ {K : Kind} (s : Sys K) where
   undone (pos n) c u h = never h
   undone (negsuc n) c u h = refl
 
-  -- (6)
-  pub refuses : (x : Op K) → Refuses s x
+  pub refuses : (x : Op K) (c : ℤ) → step s x .1 ≡ denied c → step s x .0 ≡ s
   refuses (invoke i o k) c = go (s .slot o)
     where
       go : (y : Slot (K .Num)) → reply (visited y s i o k .1) ≡ denied c → visited y s i o k .0 ≡ s
@@ -80,14 +80,65 @@ module _ {K : Kind} (s : Sys K) where
       go true false x y h = rw (x, y)
       go false b x y h = rw x
 
+-- and it wakes nobody
+none : (z c : ℤ) (w : List Woken) → reply z ≡ denied c → unless z [] w ≡ []
+none (pos n) c w h = never h
+none (negsuc n) c w h = refl
+
+pub silent : {K : Kind} (s : Sys K) (x : Op K) (c : ℤ) → step s x .1 ≡ denied c → step s x .2 ≡ []
+silent {K} s (invoke i o k) c h = go (s .slot o) h
+  where
+    go : (y : Slot (K .Num)) → reply (visited y s i o k .1) ≡ denied c → visited y s i o k .2 ≡ []
+    go vacant h = refl
+    go (object n) h = none (outcome s i o k n .turn .code) c (system.woken (deed (verdict s i o k n)) (s .queue o)) h
+silent {K} s (both i a j b k) c h = go (eqb a b) h
+  where
+    go : (y : Bool) → cond {A = Reply K} y (refuse s einval) (paired s i a j b k) .1 ≡ denied c → cond {A = Reply K} y (refuse s einval) (paired s i a j b k) .2 ≡ []
+    go true h = refl
+    go false h = none (answers s i a j b k) c (called s i a j .2 ++ called (called s i a j .0) i b k .2) h
+silent s (dispatch i) c h = go (s .state i)
+  where
+    go : (y : State) → dispatched y s i .2 ≡ []
+    go absent = refl
+    go running = refl
+    go (ready r) = refl
+    go (waiting o) = refl
+silent s (yield i) c h = go (s .state i)
+  where
+    go : (y : State) → yielded y s i .2 ≡ []
+    go absent = refl
+    go running = refl
+    go (ready r) = refl
+    go (waiting o) = refl
+silent s (expire i) c h = go (s .state i)
+  where
+    go : (y : State) → expired y s i .2 ≡ []
+    go absent = refl
+    go running = refl
+    go (ready r) = refl
+    go (waiting o) = refl
+silent s (spawn i p) c h = go (gone-by (s .state i)) (ltb i 4294967296) (valid p)
+  where
+    go : (a b d : Bool) → cond a (cond b (cond d (accept (system.born s i p) ok) (refuse s einval)) (refuse s einval)) (refuse s einval) .2 ≡ []
+    go true true true = refl
+    go true true false = refl
+    go true false d = refl
+    go false b d = refl
+silent {K} s (create o n) c h = go (free (s .slot o)) (K .new n)
+  where
+    go : (a b : Bool) → cond a (cond b (accept (placed s o n) ok) (refuse s einval)) (refuse s einval) .2 ≡ []
+    go true true = refl
+    go true false = refl
+    go false b = refl
+
 -- what one call of the thread i can do to the thread t
-data Does (K : Kind) (v : ℕ → K .Wish) (i o : ℕ) (k : K .Call) (t : ℕ) (f f' : State) : Type 0 where
+pub data Does (K : Kind) (v : ℕ → K .Wish) (i o : ℕ) (k : K .Call) (t : ℕ) (f f' : State) : Type 0 where
   nothing : f' ≡ f → Does K v i o k t f f'
   waits : t ≡ i → f ≡ running → f' ≡ waiting o → Does K v i o k t f f'
   wakes : (r : ℤ) → (t ≡ i → ⊥) → f ≡ waiting o → f' ≡ ready r → K .Owes k (v t) r → Does K v i o k t f f'
 
 -- of those that are woken, each is owed its result
-owed : (P : ℕ → Type 0) (t : ℕ) (q : List ℕ) → holds t q ≡ true → All P (map ident q) → P t
+pub owed : (P : ℕ → Type 0) (t : ℕ) (q : List ℕ) → holds t q ≡ true → All P (map ident q) → P t
 owed P t [] h a = clash (sym h)
 owed P t (x ∷ q) h a = go (eqb (ident x) t) refl h (λ z. owed P t q z (a .1))
   where
@@ -126,7 +177,7 @@ module _ {K : Kind} (law : Lawful K) (s : Sys K) (g : Fine s) (i o : ℕ) (k : K
       go false true u v = rw (u, v) (joins (eqb i t) refl)
       go false false u v = rw (u, v) (nothing refl)
 
-called-does : {K : Kind} → Lawful K → (s : Sys K) → Fine s → (i o : ℕ) (k : K .Call) (t : ℕ) → Does K (s .wish) i o k t (s .state t) (called s i o k .0 .state t)
+pub called-does : {K : Kind} → Lawful K → (s : Sys K) → Fine s → (i o : ℕ) (k : K .Call) (t : ℕ) → Does K (s .wish) i o k t (s .state t) (called s i o k .0 .state t)
 called-does {K} law s g i o k t = go (s .slot o) refl
   where
     go : (x : Slot (K .Num)) → s .slot o ≡ x → Does K (s .wish) i o k t (s .state t) (visited x s i o k .0 .state t)

@@ -2,23 +2,26 @@
 use mathlib.Core.Path.{_≡_, refl}
 use mathlib.Core.Logic.{inl}
 use mathlib.Core.List.{List, [], _∷_}
-use native.Mathlib.Omega.{arith}
+use Prim.Native.Nat.{ℕ}
 use Rattle.thread.specs.Code.{ok}
 use Rattle.wait_queue.specs.Queue.{maxWaiters, entry}
-use Rattle.mutex.specs.Mutex.{thread, lock, unlock, free, taken}
-use Rattle.system.specs.System.{absent, ready, waiting, vacant, object, Sys, Op, invoke, dispatch, spawn, create, after}
-use Rattle.system.specs.Rules.{Start}
-use Rattle.system.specs.Order.{Wakes}
-use Rattle.system.specs.Rtos.{rtos, aMutex, aCondvar, mutexCall}
-use Rattle.system.specs.Mutexes.{depth}
-use Rattle.system.specs.Theorems.{waitsWith}
-use Rattle.system.proofs.Theorems.{theorems}
+use Rattle.mutex.specs.Mutex.{thread, lock, unlock, release, free, taken}
+use Rattle.condvar.specs.Condvar.{wait}
+use Rattle.system.specs.System.{absent, ready, waiting, Slot, vacant, object, Sys, Op, invoke, dispatch, spawn, create, both, step, after}
+use Rattle.system.specs.Rtos.{rtos, aMutex, aCondvar, mutexCall, condvarCall}
+use Rattle.system.specs.Run.{run}
+use Rattle.system.specs.Ledger.{ledger, notes}
 
 abbrev empty : Sys rtos
 empty = record { prio = λ t. 0; state = λ t. absent; wish = λ t. inl tt; slot = λ o. vacant; queue = λ o. [] }
 
-empty-start : Start empty
-empty-start = record { none = λ o. refl; empty = λ o. refl; awake = λ o t. refl; known = λ t n. absurd (n refl) }
+-- the thread i gives the mutex a back and waits at the condition variable b
+abbrev waitsWith : ℕ → ℕ → ℕ → Op rtos
+waitsWith i a b = both i a (mutexCall release) b (condvarCall wait)
+
+-- what the ledger of the object o says
+abbrev told : List (Op rtos) → ℕ → Slot (rtos .Num)
+told past o = ledger (notes (run step empty) o past)
 
 -- the newest operation in front
 abbrev locked : List (Op rtos)
@@ -29,12 +32,12 @@ locked =
 abbrev passed : List (Op rtos)
 passed = waitsWith 1 7 8 ∷ invoke 1 7 (mutexCall unlock) ∷ locked
 
-pub two : (after empty locked .slot 7 ≡ object (aMutex (record { owner = thread 1; count = 2 }))) × (depth empty locked 7 ≡ 2) × (after empty locked .state 2 ≡ waiting 7)
+pub two : (after empty locked .slot 7 ≡ object (aMutex (record { owner = thread 1; count = 2 }))) × (told locked 7 ≡ object (aMutex (record { owner = thread 1; count = 2 }))) × (after empty locked .state 2 ≡ waiting 7)
 unfolding maxWaiters
 two = (refl, refl, refl)
 
 -- the wait hands the mutex to 2, which has one lock
-pub one : (after empty passed .slot 7 ≡ object (aMutex (taken 2))) × (depth empty passed 7 ≡ 1) × (after empty passed .state 2 ≡ ready ok) × (after empty passed .state 1 ≡ waiting 8)
+pub one : (after empty passed .slot 7 ≡ object (aMutex (taken 2))) × (told passed 7 ≡ object (aMutex (taken 2))) × (after empty passed .state 2 ≡ ready ok) × (after empty passed .state 1 ≡ waiting 8)
 unfolding maxWaiters
 one = (refl, refl, refl, refl)
 
@@ -57,8 +60,3 @@ pub handed : (after empty (waitsWith 1 7 8 ∷ wanted) .slot 7 ≡ object (aMute
     × (after empty (waitsWith 1 7 8 ∷ wanted) .state 1 ≡ waiting 8)
 unfolding maxWaiters
 handed = (refl, refl, refl, refl, refl)
-
--- as the theorem says, all of whose premises hold here
-pub handed-too : Wakes empty wanted (waitsWith 1 7 8) 7 ok (entry 3 2) (entry 5 3 ∷ []) (1 ∷ [])
-unfolding maxWaiters
-handed-too = theorems empty empty-start wanted .first .wait 1 7 8 (entry 3 2) (entry 5 3 ∷ []) refl refl refl refl (omega arith) .0

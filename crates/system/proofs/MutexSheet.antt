@@ -3,9 +3,9 @@ use mathlib.Core.Path.{_≡_, refl, sym, ap, _∙_}
 use mathlib.Core.Bool.{Bool, true, false, cond}
 use mathlib.Core.Logic.{⊎-elim}
 use mathlib.Core.List.{List, [], _∷_, map}
-use Prim.Native.Nat.{ℕ, suc, _-_, _≤_, _<_}
+use Prim.Native.Nat.{ℕ, suc, _-_, _<_}
 use native.Mathlib.Omega.{arith}
-use lib.Dec.{eqb}
+use lib.Dec.{eqb, ltb}
 use lib.IntN.{pos}
 use borrow.Author.Tests.{eq-eqb, ne-eqb, eqb-true, lt-ltb, le-ltb, ltb-true}
 use Rattle.seq.specs.List.{any}
@@ -15,7 +15,7 @@ use Rattle.wait_queue.specs.Queue.{ident}
 use Rattle.wait_queue.specs.Turn as turn
 use Rattle.kind.specs.Verdict.{upTo, keep, park, wake, Verdict, deny, allow}
 use Rattle.kind.specs.Kind.{Kind}
-use Rattle.mutex.specs.Mutex.{Owner, nobody, thread, Mutex, Call, lock, tryLock, unlock, release, held, maxCount, released, unlocked, transferred, free, taken, counting, new, formed, decide, mutex-kind}
+use Rattle.mutex.specs.Mutex.{Owner, nobody, thread, Mutex, Call, lock, tryLock, unlock, release, held, owns, maxCount, released, unlocked, transferred, free, taken, counting, locks as locking, passes, unlocks as unlocking, new, formed, decide, mutex-kind}
 use Rattle.mutex.proofs.Law.{mutex-lawful}
 use Rattle.system.specs.System.{running, object, Sys, invoke, Kernel, verdict, step}
 use Rattle.system.specs.Part.{Part}
@@ -26,6 +26,7 @@ use Rattle.system.specs.MutexRules.{MutexMakes, owned, Locks, Unlocks, M
 use Rattle.system.specs.Rtos.{mutexes}
 use Rattle.system.proofs.Effects as effects
 use Rattle.system.proofs.Same.{under, alike, one-wait}
+use Rattle.system.proofs.Bests.{InTurn, Turnwise, in-turn}
 use Rattle.system.proofs.Sheets.{Fits, Sheet}
 
 makes : (m : Mutex) → MutexMakes m → new m ≡ true
@@ -146,10 +147,28 @@ module _ {K : Kind} (P : Part mutex-kind K) (f g : Kernel K) (s : Sys K) (i o : 
     mutex-fixes unlock a b = one-unlock unlock (λ x y. x ∙ sym y) (a .unlocks) (b .unlocks)
     mutex-fixes release a b = one-unlock release (λ x y. x ∙ sym y) (a .releases) (b .releases)
 
+-- it wakes from the front
+passes-turn : (q : List ℕ) → InTurn (passes q)
+passes-turn [] = tt
+passes-turn (t ∷ q) = tt
+
+locks-turn : (m : Mutex) (w : ℕ) (d : Verdict Mutex (Unit {0})) → InTurn d → InTurn (locking m w d)
+locks-turn m w d h = in-turn (held (m .owner)) _ _ (in-turn (owns w (m .owner)) _ _ (in-turn (ltb (m .count) maxCount) _ _ tt tt) h) tt
+
+unlocks-turn : (m : Mutex) (w : ℕ) (q : List ℕ) (d : Verdict Mutex (Unit {0})) → InTurn d → InTurn (unlocking m w q d)
+unlocks-turn m w q d h = in-turn (held (m .owner)) _ _ (in-turn (owns w (m .owner)) _ _ (in-turn (ltb 1 (m .count)) _ _ h (passes-turn q)) tt) tt
+
+turnwise : Turnwise mutex-kind
+turnwise m v q w lock = locks-turn m w (allow m (park tt) turn.waits) tt
+turnwise m v q w tryLock = locks-turn m w (deny ebusy) tt
+turnwise m v q w unlock = unlocks-turn m w q (allow (counting (m .count - 1) m) keep released) tt
+turnwise m v q w release = unlocks-turn m w q (deny edeadlk) tt
+
 pub mutex-sheet : Sheet mutexes
 mutex-sheet =
     record {
       lawful = mutex-lawful;
+      turnwise = turnwise;
       makes = makes;
       made = made;
       foreign = λ n v q w k e. absurd e;

@@ -1,8 +1,8 @@
 -- Every queue is in the order of priority, and of waiting. Assumes nothing.
 use mathlib.Core.Path.{_≡_, refl, sym, ap, _∙_}
 use mathlib.Core.Bool.{Bool, true, false, cond}
-use mathlib.Core.Logic.{inl, inr}
-use mathlib.Core.List.{List, [], _∷_}
+use mathlib.Core.Logic.{_⊎_, inl, inr}
+use mathlib.Core.List.{List, [], _∷_, map}
 use Prim.Native.Nat.{ℕ, suc, _≤_, _<_}
 use native.Mathlib.Omega.{arith}
 use lib.Dec.{eqb, ltb}
@@ -19,14 +19,20 @@ use Rattle.kind.specs.Verdict.{keep, park, wake, Verdict, deny, allow}
 use Rattle.kind.specs.Kind.{Kind, Lawful}
 use Rattle.kind.specs.Object.{thread, carried}
 use Rattle.kind.proofs.Picks.{left-sub}
-use Rattle.system.specs.System.{State, absent, running, ready, waiting, number, Slot, vacant, object, Sys, Op, invoke, both, dispatch, yield, expire, spawn, create, unless, serve, outcome, verdict, visited, called, dispatched, yielded, expired, spawned, created, free, gone-by, answers, Answer, denied, reply, step, after, Reply, refuse, paired}
+use Rattle.system.specs.System.{State, absent, running, ready, waiting, number, Slot, vacant, object, Sys, Op, invoke, both, dispatch, yield, expire, spawn, create, unless, serve, outcome, verdict, visited, called, dispatched, yielded, expired, spawned, created, free, gone-by, answers, step, after, Reply, refuse, paired}
 use Rattle.thread.specs.Code.{einval}
 use Rattle.thread.specs.Priority.{valid}
 use Rattle.system.specs.Rules.{times, on, Fine, Start}
+use Rattle.system.specs.Run.{run}
 use Rattle.system.specs.Order.{Before, age, Ordered}
 use Rattle.system.proofs.Times.{times-joined}
 use Rattle.system.proofs.Calls.{all-two, runs, barred, granted, called-fine}
 use Rattle.system.proofs.Steps.{always}
+use Rattle.system.proofs.Places.{tells}
+
+-- the entry x is to be woken before y, by the priorities in the words
+abbrev Earlier : (ℕ → ℕ) → ℕ → ℕ → Type 0
+Earlier f x y = (prio x < prio y) ⊎ ((prio x ≡ prio y) × (f (ident y) < f (ident x)))
 
 -- a list in order stays so under another order of its members
 sorted-mono : (R S : ℕ → ℕ → Type 0) (M : ℕ → Type 0) → ((x y : ℕ) → M x → M y → R x y → S x y) → (q : List ℕ) → All M q → Sorted R q → Sorted S q
@@ -39,20 +45,20 @@ sorted-mono R S M f (x ∷ q) a r = (row q (a .1) (r .0), sorted-mono R S M f q 
 
 module _ (f : ℕ → ℕ) (w : ℕ) where
   -- who came last stands behind all of its priority
-  sorted-joined : (q : List ℕ) → Sorted NoLower q → Sorted (Before f) q → All (λ y. f (ident w) < f (ident y)) q → Sorted (Before f) (joined w q)
+  sorted-joined : (q : List ℕ) → Sorted NoLower q → Sorted (Earlier f) q → All (λ y. f (ident w) < f (ident y)) q → Sorted (Earlier f) (joined w q)
   sorted-joined [] a b c = (tt, tt)
   sorted-joined (x ∷ q) a b c = go (ltb (prio w) (prio x)) refl (sorted-joined q (a .1) (b .1) (c .1))
     where
-      go : (l : Bool) → ltb (prio w) (prio x) ≡ l → Sorted (Before f) (joined w q) → Sorted (Before f) (cond l (w ∷ x ∷ q) (x ∷ joined w q))
+      go : (l : Bool) → ltb (prio w) (prio x) ≡ l → Sorted (Earlier f) (joined w q) → Sorted (Earlier f) (cond l (w ∷ x ∷ q) (x ∷ joined w q))
       go true z ih =
           let h : prio w < prio x = ltb-true (prio w) (prio x) z in
-          ((inl h, all-map (NoLower x) (Before f w) q (λ y e. inl (omega (arith, e))) (a .0)), b)
-      go false z ih = (all-insert prio (Before f x) w q (last (ltb (prio x) (prio w)) refl) (b .0), ih)
+          ((inl h, all-map (NoLower x) (Earlier f w) q (λ y e. inl (omega (arith, e))) (a .0)), b)
+      go false z ih = (all-insert prio (Earlier f x) w q (last (ltb (prio x) (prio w)) refl) (b .0), ih)
         where
           h : prio x ≤ prio w
           h = ltb-false (prio w) (prio x) z
 
-          last : (k : Bool) → ltb (prio x) (prio w) ≡ k → Before f x w
+          last : (k : Bool) → ltb (prio x) (prio w) ≡ k → Earlier f x w
           last true y = inl (ltb-true (prio x) (prio w) y)
           last false y = inr (omega (arith, h, ltb-false (prio x) (prio w) y), c .0)
 
@@ -103,7 +109,7 @@ called-here {K} s g i o k = go (s .slot o) refl
         by (pos c) z = rw (granted s i o k n (g .formed o n h) c z) (by-verdict s g i o n h (verdict s i o k n) (runs (s .prio i) (s .state i) c z))
 
 -- the others
-called-there : {K : Kind} (s : Sys K) (i o : ℕ) (k : K .Call) (y : ℕ) → (o ≡ y → ⊥) → called s i o k .0 .queue y ≡ s .queue y
+pub called-there : {K : Kind} (s : Sys K) (i o : ℕ) (k : K .Call) (y : ℕ) → (o ≡ y → ⊥) → called s i o k .0 .queue y ≡ s .queue y
 called-there {K} s i o k y e = go (s .slot o)
   where
     either : (z : ℤ) (u : Sys K) → u .queue y ≡ s .queue y → unless z s u .queue y ≡ s .queue y
@@ -198,14 +204,30 @@ module _ {K : Kind} (law : Lawful K) (s : Sys K) (g : Fine s) where
       go true false x z = rw (x, z)
       go false b x z = rw x
 
+-- by the priorities of the threads
+by-threads : (p a : ℕ → ℕ) (q : List ℕ) → All (λ x. x ≡ entry (p (ident x)) (ident x)) q → Sorted (Earlier a) q → Sorted (Before p a) (map ident q)
+by-threads p a [] o s = tt
+by-threads p a (x ∷ q) o s = (row q (o .1) (s .0), by-threads p a q (o .1) (s .1))
+  where
+    one : (y : ℕ) → y ≡ entry (p (ident y)) (ident y) → Earlier a x y → Before p a (ident x) (ident y)
+    one y e (inl l) = inl (rw (sym (tells x (p (ident x)) (o .0)), sym (tells y (p (ident y)) e)) l)
+    one y e (inr l) = inr (rw (sym (tells x (p (ident x)) (o .0)), sym (tells y (p (ident y)) e)) (l .0), l .1)
+
+    row : (l : List ℕ) → All (λ y. y ≡ entry (p (ident y)) (ident y)) l → All (Earlier a x) l → All (Before p a (ident x)) (map ident l)
+    row [] c d = tt
+    row (y ∷ l) c d = (one y (c .0) (d .0), row l (c .1) (d .1))
+
 -- every history
 module _ {K : Kind} (law : Lawful K) (s : Sys K) (b : Start s) where
+  abbrev aged : List (Op K) → ℕ → ℕ → ℕ
+  aged = age (run step s)
+
   -- who waits has waited for a step at least, and who does not, for none
-  age-some : (past : List (Op K)) (o t : ℕ) → 0 < on o (after s past .state t) → 0 < age s past o t
+  age-some : (past : List (Op K)) (o t : ℕ) → 0 < on o (after s past .state t) → 0 < aged past o t
   age-some [] o t h = absurd (omega (arith, b .awake o t))
   age-some (x ∷ past) o t h = rw (lt-ltb 0 (on o (after s (x ∷ past) .state t)) h) (omega arith)
 
-  age-none : (past : List (Op K)) (o t : ℕ) → on o (after s past .state t) ≡ 0 → age s past o t ≡ 0
+  age-none : (past : List (Op K)) (o t : ℕ) → on o (after s past .state t) ≡ 0 → aged past o t ≡ 0
   age-none [] o t h = refl
   age-none (x ∷ past) o t h = let z : on o (after s (x ∷ past) .state t) ≤ 0 = omega arith in rw (le-ltb 0 (on o (after s (x ∷ past) .state t)) z)
 
@@ -216,23 +238,23 @@ module _ {K : Kind} (law : Lawful K) (s : Sys K) (b : Start s) where
     abbrev now : Sys K
     now = after s (x₀ ∷ past)
 
-    grown : (t : ℕ) → 0 < times t (now .queue o) → age s (x₀ ∷ past) o t ≡ suc (age s past o t)
+    grown : (t : ℕ) → 0 < times t (now .queue o) → aged (x₀ ∷ past) o t ≡ suc (aged past o t)
     grown t h = rw (lt-ltb 0 (on o (now .state t)) (omega (arith, always law s b (x₀ ∷ past) .placed o t)))
 
-    older : (q : List ℕ) → All (λ y. 0 < times (ident y) (now .queue o)) q → Sorted (Before (age s past o)) q → Sorted (Before (age s (x₀ ∷ past) o)) q
+    older : (q : List ℕ) → All (λ y. 0 < times (ident y) (now .queue o)) q → Sorted (Earlier (aged past o)) q → Sorted (Earlier (aged (x₀ ∷ past) o)) q
     older q a c =
-        sorted-mono (Before (age s past o)) (Before (age s (x₀ ∷ past) o)) (λ y. 0 < times (ident y) (now .queue o))
+        sorted-mono (Earlier (aged past o)) (Earlier (aged (x₀ ∷ past) o)) (λ y. 0 < times (ident y) (now .queue o))
         (λ y z m l r. later y z m l r) q a c
       where
-        later : (y z : ℕ) → 0 < times (ident y) (now .queue o) → 0 < times (ident z) (now .queue o) → Before (age s past o) y z → Before (age s (x₀ ∷ past) o) y z
+        later : (y z : ℕ) → 0 < times (ident y) (now .queue o) → 0 < times (ident z) (now .queue o) → Earlier (aged past o) y z → Earlier (aged (x₀ ∷ past) o) y z
         later y z m l (inl h) = inl h
         later y z m l (inr h) = inr (h .0, omega (arith, h .1, grown (ident y) m, grown (ident z) l))
 
-    ordered-step : Sorted (Before (age s past o)) (old .queue o) → Sorted (Before (age s (x₀ ∷ past) o)) (now .queue o)
+    ordered-step : Sorted (Earlier (aged past o)) (old .queue o) → Sorted (Earlier (aged (x₀ ∷ past) o)) (now .queue o)
     ordered-step c = go (step-next law old (always law s b past) x₀ o) (members (now .queue o))
       where
-        go : Next o (old .state) (old .queue o) (now .queue o) → All (λ y. 0 < times (ident y) (now .queue o)) (now .queue o) → Sorted (Before (age s (x₀ ∷ past) o)) (now .queue o)
-        go (fewer t) a = older (now .queue o) a (sub-sorted (Before (age s past o)) t c)
+        go : Next o (old .state) (old .queue o) (now .queue o) → All (λ y. 0 < times (ident y) (now .queue o)) (now .queue o) → Sorted (Earlier (aged (x₀ ∷ past) o)) (now .queue o)
+        go (fewer t) a = older (now .queue o) a (sub-sorted (Earlier (aged past o)) t c)
         go (more p i y z e) a =
             let w : ℕ = entry p i in
             let q : List ℕ = old .queue o in
@@ -241,11 +263,14 @@ module _ {K : Kind} (law : Lawful K) (s : Sys K) (b : Start s) where
             let here : All (λ x. 0 < times (ident x) (now .queue o)) q =
             all-map (λ x. 0 < times (ident x) q) (λ x. 0 < times (ident x) (now .queue o)) q (λ x h. rw (j (ident x)) (more-or (eqb i (ident x)) (times (ident x) q) h)) (members q) in
             let self : 0 < times i (now .queue o) = rw (j i, eq-eqb i i refl) (omega arith) in
-            let late : All (λ x. age s (x₀ ∷ past) o (ident w) < age s (x₀ ∷ past) o (ident x)) q =
-            all-two (λ x. 0 < times (ident x) (now .queue o)) (λ x. 0 < times (ident x) q) (λ x. age s (x₀ ∷ past) o (ident w) < age s (x₀ ∷ past) o (ident x)) q
+            let late : All (λ x. aged (x₀ ∷ past) o (ident w) < aged (x₀ ∷ past) o (ident x)) q =
+            all-two (λ x. 0 < times (ident x) (now .queue o)) (λ x. 0 < times (ident x) q) (λ x. aged (x₀ ∷ past) o (ident w) < aged (x₀ ∷ past) o (ident x)) q
             (λ x m k. rw y (omega (arith, grown i self, grown (ident x) m, age-none past o i z, age-some past o (ident x) (omega (arith, g .placed o (ident x)))))) here (members q) in
-            rw e (sorted-joined (age s (x₀ ∷ past) o) w q (g .queues o .sorted) (older q here c) late)
+            rw e (sorted-joined (aged (x₀ ∷ past) o) w q (g .queues o .sorted) (older q here c) late)
 
-  pub ordered : (past : List (Op K)) → Ordered s past
-  ordered [] o = rw (b .empty o) tt
-  ordered (x ∷ past) o = ordered-step x past o (ordered past o)
+  in-order : (past : List (Op K)) (o : ℕ) → Sorted (Earlier (aged past o)) (after s past .queue o)
+  in-order [] o = rw (b .empty o) tt
+  in-order (x ∷ past) o = ordered-step x past o (in-order past o)
+
+  pub ordered : (past : List (Op K)) → Ordered (run step s) past
+  ordered past o = by-threads (after s past .prio) (aged past o) (after s past .queue o) (always law s b past .own o) (in-order past o)

@@ -2,8 +2,8 @@
 use mathlib.Core.Path.{_≡_, refl, sym, ap, _∙_}
 use mathlib.Core.Bool.{Bool, true, false, cond}
 use mathlib.Core.Logic.{⊎-elim}
-use mathlib.Core.List.{List, map}
-use Prim.Native.Nat.{ℕ, suc, _-_, _≤_, _<_}
+use mathlib.Core.List.{[], _∷_, map}
+use Prim.Native.Nat.{ℕ, suc, _-_}
 use native.Mathlib.Omega.{arith}
 use lib.Dec.{ltb, leb}
 use lib.IntN.{pos}
@@ -25,6 +25,7 @@ use Rattle.system.specs.SemRules.{SemMakes, counted, Takes, SemRules}
 use Rattle.system.specs.Rtos.{sems}
 use Rattle.system.proofs.Effects as effects
 use Rattle.system.proofs.Same.{under, one-wait, one-wake}
+use Rattle.system.proofs.Bests.{Turnwise, in-turn}
 use Rattle.system.proofs.Sheets.{Fits, Sheet}
 
 makes : (n : Sem) → SemMakes n → new n ≡ true
@@ -82,10 +83,19 @@ module _ {K : Kind} (P : Part sem-kind K) (f g : Kernel K) (s : Sys K) (i o : �
   sem-fixes tryTake a b = one-take tryTake (λ x y. x ∙ sym y) (a .tries) (b .tries)
   sem-fixes reset a b = a .clears ∙ sym (b .clears)
 
+-- it wakes from the front
+turnwise : Turnwise sem-kind
+turnwise n v [] w give = in-turn (ltb (n .count) (n .limit)) _ _ tt tt
+turnwise n v (t ∷ q) w give = tt
+turnwise n v q w take = in-turn (ltb 0 (n .count)) _ _ tt tt
+turnwise n v q w tryTake = in-turn (ltb 0 (n .count)) _ _ tt tt
+turnwise n v q w reset = tt
+
 pub sem-sheet : Sheet sems
 sem-sheet =
     record {
       lawful = sem-lawful;
+      turnwise = turnwise;
       makes = makes;
       made = made;
       foreign = λ n v q w k e. absurd e;

@@ -1,8 +1,8 @@
 -- What a member of a system has to prove, so that its data sheet holds of our step and of no other kernel; a sum of members has proved it.
 -- Assumes nothing.
 use mathlib.Core.Path.{_≡_, refl, ap, _∙_}
-use mathlib.Core.Bool.{true}
-use mathlib.Core.Logic.{_⊎_, inl, inr}
+use mathlib.Core.Bool.{Bool, true}
+use mathlib.Core.Logic.{inl, inr}
 use mathlib.Core.List.{List}
 use Prim.Native.Nat.{ℕ}
 use Rattle.seq.specs.List.{any}
@@ -14,11 +14,14 @@ use Rattle.system.specs.Part.{Part, whole}
 use Rattle.system.specs.Sum.{Member, _⊕_, mapped, onLeft, onRight, inLeft, inRight}
 use Rattle.system.specs.Rules.{Fine}
 use Rattle.system.proofs.Sum.{sum-lawful}
+use Rattle.system.proofs.Bests.{InTurn, Turnwise}
 
 -- a part decides as the kind alone does
 pub record Fits {A K : Kind} (P : Part A K) : Type 0 where
   pub decides : (n : A .Num) (v : ℕ → K .Wish) (q : List ℕ) (w : ℕ) (k : A .Call)
       → K .decide (P .num n) v q w (P .call k) ≡ mapped (P .num) (P .wish) (A .decide n (λ t. P .seen (v t)) q w k)
+  pub forms : (n : A .Num) (w : Bool) → K .formed (P .num n) w ≡ A .formed n w
+  pub blocks : (n : A .Num) (t : ℕ) (x : K .Wish) → K .Blocked (P .num n) t x → A .Blocked n t (P .seen x)
 
 -- verdicts in words of the whole
 mapped-same : {N X : Type 0} (d : Verdict N X) → d ≡ mapped (λ n. n) (λ x. x) d
@@ -34,8 +37,14 @@ mapped-twice f g a b (allow n keep r) = refl
 mapped-twice f g a b (allow n (park x) r) = refl
 mapped-twice f g a b (allow n (wake p h) r) = refl
 
+mapped-turn : {M N X Y : Type 0} (f : M → N) (g : X → Y) (d : Verdict M X) → InTurn d → InTurn (mapped f g d)
+mapped-turn f g (deny r) h = tt
+mapped-turn f g (allow n keep r) h = tt
+mapped-turn f g (allow n (park x) r) h = tt
+mapped-turn f g (allow n (wake p w) r) h = h
+
 pub whole-fits : (K : Kind) → Fits (whole K)
-whole-fits K = record { decides = λ n v q w k. mapped-same (K .decide n v q w k) }
+whole-fits K = record { decides = λ n v q w k. mapped-same (K .decide n v q w k); forms = λ n w. refl; blocks = λ n t x b. b }
 
 module _ (A B : Member) {K : Kind} (P : Part ((A ⊕ B) .kind) K) (h : Fits P) where
   pub left-fits : Fits (inLeft A B P)
@@ -44,6 +53,8 @@ module _ (A B : Member) {K : Kind} (P : Part ((A ⊕ B) .kind) K) (h : Fits P) w
         decides =
             λ n v q w k.
             h .decides (inl n) v q w (inl k) ∙ mapped-twice inl (P .num) inl (P .wish) (A .kind .decide n (λ t. onLeft (A .idle) (P .seen (v t))) q w k);
+        forms = λ n w. h .forms (inl n) w;
+        blocks = λ n t x b. h .blocks (inl n) t x b;
       }
 
   pub right-fits : Fits (inRight A B P)
@@ -52,10 +63,14 @@ module _ (A B : Member) {K : Kind} (P : Part ((A ⊕ B) .kind) K) (h : Fits P) w
         decides =
             λ n v q w k.
             h .decides (inr n) v q w (inr k) ∙ mapped-twice inr (P .num) inr (P .wish) (B .kind .decide n (λ t. onRight (B .idle) (P .seen (v t))) q w k);
+        forms = λ n w. h .forms (inr n) w;
+        blocks = λ n t x b. h .blocks (inr n) t x b;
       }
 
 pub record Sheet (M : Member) : Type 1 where
   pub lawful : Lawful (M .kind)
+  -- it wakes from the front
+  pub turnwise : Turnwise (M .kind)
   -- it can be made of what it says
   pub makes : (n : M .kind .Num) → M .Makes n → M .kind .new n ≡ true
   pub made : (n : M .kind .Num) → M .kind .new n ≡ true → M .Makes n
@@ -70,6 +85,12 @@ pub record Sheet (M : Member) : Type 1 where
       → (M .Foreign n k → f s (invoke i o (P .call k)) ≡ g s (invoke i o (P .call k))) → f s (invoke i o (P .call k)) ≡ g s (invoke i o (P .call k))
 
 module _ {A B : Member} (a : Sheet A) (b : Sheet B) where
+  turnwise-sum : Turnwise ((A ⊕ B) .kind)
+  turnwise-sum (inl n) v q w (inl k) = mapped-turn inl inl (A .kind .decide n (λ t. onLeft (A .idle) (v t)) q w k) (a .turnwise n (λ t. onLeft (A .idle) (v t)) q w k)
+  turnwise-sum (inl n) v q w (inr k) = tt
+  turnwise-sum (inr n) v q w (inl k) = tt
+  turnwise-sum (inr n) v q w (inr k) = mapped-turn inr inr (B .kind .decide n (λ t. onRight (B .idle) (v t)) q w k) (b .turnwise n (λ t. onRight (B .idle) (v t)) q w k)
+
   makes-sum : (n : (A ⊕ B) .kind .Num) → (A ⊕ B) .Makes n → (A ⊕ B) .kind .new n ≡ true
   makes-sum (inl n) e = a .makes n e
   makes-sum (inr n) e = b .makes n e
@@ -98,13 +119,18 @@ module _ {A B : Member} (a : Sheet A) (b : Sheet B) where
   fixes-sum P f g s i o (inr n) (inl k) w x y e = e tt
   fixes-sum P f g s i o (inr n) (inr k) w x y e = b .fixes (inRight A B P) f g s i o n k w x y e
 
-  pub both-sheets : Sheet (A ⊕ B)
+  both-sheets : Sheet (A ⊕ B)
   both-sheets =
       record {
         lawful = sum-lawful A B (a .lawful) (b .lawful);
+        turnwise = turnwise-sum;
         makes = makes-sum;
         made = made-sum;
         foreign = foreign-sum;
         keeps = keeps-sum;
         fixes = fixes-sum;
       }
+
+infixr 40 _and_
+pub _and_ : {A B : Member} → Sheet A → Sheet B → Sheet (A ⊕ B)
+a and b = both-sheets a b

@@ -15,7 +15,7 @@ use Rattle.thread.specs.Priority.{maxPriority, valid}
 use Rattle.wait_queue.specs.Queue.{entry, ident, of, without, Well}
 use Rattle.wait_queue.proofs.Well.{Other, holds-none, well-empty, well-sub}
 use Rattle.kind.specs.Kind.{Kind, Lawful, Rightly}
-use Rattle.system.specs.System.{Answer, done, denied, reply, answers, State, absent, running, ready, waiting, Slot, vacant, object, Sys, Op, invoke, both, dispatch, yield, expire, spawn, create, upd, unless, free, gone-by, called, setState, dispatched, yielded, left, expired, spawned, created, step, after, Reply, accept, refuse, paired, placed}
+use Rattle.system.specs.System.{answers, State, absent, running, ready, waiting, Slot, vacant, object, Sys, Op, invoke, both, dispatch, yield, expire, spawn, create, upd, unless, free, gone-by, called, setState, dispatched, yielded, left, expired, spawned, created, step, after, Reply, accept, refuse, paired, placed}
 use Rattle.system.specs.Rules.{times, on, Fine, Start}
 use Rattle.system.proofs.Times.{times-without, not-held, all-list, list-all}
 use Rattle.system.proofs.Calls.{called-fine}

@@ -5,14 +5,10 @@ use mathlib.Core.Logic.{_⊎_, inl, inr}
 use mathlib.Core.List.{List}
 use Prim.Native.Nat.{ℕ}
 use Rattle.seq.specs.List.{any}
+use lib.IntN.{pos, negsuc}
 use Rattle.kind.specs.Verdict.{keep, park, wake, Verdict, deny, allow}
 use Rattle.kind.specs.Kind.{Lawful, Rightly, Distinct, Sound, Right, Booked}
-use Rattle.sem.proofs.Law.{sem-lawful}
-use Rattle.mutex.proofs.Law.{mutex-lawful}
-use Rattle.condvar.proofs.Law.{condvar-lawful}
-use Rattle.futex.proofs.Law.{futex-lawful}
 use Rattle.system.specs.Sum.{Member, _⊕_, mapped, balance, onLeft, onRight}
-use Rattle.system.specs.Rtos.{sems, mutexes, condvars, futexes, rtos}
 
 module _ (A B : Member) (a : Lawful (A .kind)) (b : Lawful (B .kind)) where
   sound-left : (q : List ℕ) (d : Verdict (A .kind .Num) (A .kind .Wish)) → Sound (A .kind) q d → Sound ((A ⊕ B) .kind) q (mapped inl inl d)
@@ -65,14 +61,16 @@ module _ (A B : Member) (a : Lawful (A .kind)) (b : Lawful (B .kind)) where
 
   booked-left : (n : A .kind .Num) (q : List ℕ) (w : ℕ) (k : A .kind .Call) (d : Verdict (A .kind .Num) (A .kind .Wish)) → Booked (A .kind) n q w k d
       → Booked ((A ⊕ B) .kind) (inl n) q w (inl k) (mapped inl inl d)
-  booked-left n q w k (deny r) s = tt
+  booked-left n q w k (deny (pos r)) s = s
+  booked-left n q w k (deny (negsuc r)) s = tt
   booked-left n q w k (allow m keep r) s = ap (balance inl) s
   booked-left n q w k (allow m (park x) r) s = ap (balance inl) s
   booked-left n q w k (allow m (wake p f) r) s = ap (balance inl) s
 
   booked-right : (n : B .kind .Num) (q : List ℕ) (w : ℕ) (k : B .kind .Call) (d : Verdict (B .kind .Num) (B .kind .Wish)) → Booked (B .kind) n q w k d
       → Booked ((A ⊕ B) .kind) (inr n) q w (inr k) (mapped inr inr d)
-  booked-right n q w k (deny r) s = tt
+  booked-right n q w k (deny (pos r)) s = s
+  booked-right n q w k (deny (negsuc r)) s = tt
   booked-right n q w k (allow m keep r) s = ap (balance inr) s
   booked-right n q w k (allow m (park x) r) s = ap (balance inr) s
   booked-right n q w k (allow m (wake p f) r) s = ap (balance inr) s
@@ -86,8 +84,3 @@ module _ (A B : Member) (a : Lawful (A .kind)) (b : Lawful (B .kind)) where
 
   pub sum-lawful : Lawful ((A ⊕ B) .kind)
   sum-lawful = record { sound = sound; right = right; fewer = fewer; made = made; booked = booked }
-
-pub rtos-lawful : Lawful rtos
-rtos-lawful =
-    sum-lawful sems (mutexes ⊕ condvars ⊕ futexes) sem-lawful
-    (sum-lawful mutexes (condvars ⊕ futexes) mutex-lawful (sum-lawful condvars futexes condvar-lawful futex-lawful))

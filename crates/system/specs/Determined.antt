@@ -1,10 +1,10 @@
 -- The laws hold of our step, and of no other: a kernel that keeps them does what it does.
 use mathlib.Core.Path.{_≡_}
 use mathlib.Core.List.{List}
-use Rattle.system.specs.System.{Sys, Op, Kernel, step, after}
+use Rattle.system.specs.System.{Sys, Op, Kernel, reached, step, after}
 use Rattle.system.specs.Sum.{Member}
 use Rattle.system.specs.Rules.{Start}
-use Rattle.system.specs.Laws.{reached, Laws}
+use Rattle.system.specs.Laws.{Laws}
 
 pub record Determined (M : Member) : Type 0 where
   pub laws : Laws M step

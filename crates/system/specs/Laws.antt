@@ -8,7 +8,7 @@ use Rattle.thread.specs.Code.{ok, eagain, ebusy, einval}
 use Rattle.thread.specs.Priority.{maxPriority}
 use Rattle.wait_queue.specs.Queue.{ident}
 use Rattle.kind.specs.Kind.{Kind}
-use Rattle.system.specs.System.{absent, running, ready, waiting, vacant, object, Sys, Op, invoke, both, dispatch, yield, expire, spawn, create, done, denied, Kernel}
+use Rattle.system.specs.System.{absent, running, ready, waiting, vacant, object, Sys, Op, invoke, both, dispatch, yield, expire, spawn, create, done, denied, Kernel, reached}
 use Rattle.system.specs.Part.{whole}
 use Rattle.system.specs.Effect.{is-now, has-priority, has-numbers, has-queue, Does, Denies}
 use Rattle.system.specs.Sum.{Member}
@@ -64,11 +64,6 @@ module _ (M : Member) (f : Kernel (M .kind)) (s : Sys (M .kind)) where
     pub objects : OfObjects
     -- the data sheet of each object
     pub rules : (i o : ℕ) (n : M .kind .Num) → s .slot o ≡ object n → s .state i ≡ running → M .Rules (whole (M .kind)) f s i o n
-
--- the state after a history, the newest operation in front
-abbrev pub reached : {K : Kind} → Kernel K → Sys K → List (Op K) → Sys K
-reached f s [] = s
-reached f s (x ∷ past) = f (reached f s past) x .0
 
 -- after every history from a start at which there is no object and nobody waits
 abbrev pub Laws : (M : Member) → Kernel (M .kind) → Type 0

@@ -7,10 +7,11 @@ pub mod CondvarRules
 pub mod FutexRules
 pub mod Sum
 pub mod Rules
+pub mod Run
 pub mod Order
 pub mod Life
+pub mod Ledger
 pub mod Rtos
-pub mod Mutexes
 pub mod Laws
 pub mod Determined
 pub mod Theorems

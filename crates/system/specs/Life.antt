@@ -1,11 +1,12 @@
 -- What one step can do to a thread, and what a refusal does.
 use mathlib.Core.Path.{_≡_}
-use mathlib.Core.Bool.{Bool}
+use mathlib.Core.List.{List, [], _∷_}
 use Prim.Native.Nat.{ℕ}
 use lib.IntN.{ℤ}
 use Rattle.thread.specs.Code.{ok, eagain}
 use Rattle.kind.specs.Kind.{Kind}
-use Rattle.system.specs.System.{State, absent, running, ready, waiting, Sys, Op, invoke, both, dispatch, yield, expire, spawn, Answer, done, denied, step}
+use Rattle.system.specs.System.{State, absent, running, ready, waiting, Op, invoke, both, dispatch, yield, expire, spawn, Answer, done, denied}
+use Rattle.system.specs.Run.{Run}
 
 -- the calls of an operation: by the thread w, of the object o
 pub data Calls (K : Kind) : Op K → ℕ → ℕ → K .Call → Type 0 where
@@ -13,7 +14,7 @@ pub data Calls (K : Kind) : Op K → ℕ → ℕ → K .Call → Type 0 where
   former : {w a b : ℕ} {j k : K .Call} → Calls K (both w a j b k) w a j
   latter : {w a b : ℕ} {j k : K .Call} → Calls K (both w a j b k) w b k
 
--- (4) all that one step, with its answer, can do to the thread t, from its state before to its state after; v: the wishes before
+-- all that one step, with its answer, can do to the thread t, from its state before to its state after; v: the wishes before
 pub data Life (K : Kind) (v : ℕ → K .Wish) : Op K → Answer → ℕ → State → State → Type 0 where
   -- nothing
   stays : {x : Op K} {a : Answer} {t : ℕ} {y : State} → Life K v x a t y y
@@ -30,6 +31,6 @@ pub data Life (K : Kind) (v : ℕ → K .Wish) : Op K → Answer → ℕ → Sta
   -- it is made
   born : {a : Answer} {t p : ℕ} → Life K v (spawn t p) a t absent (ready ok)
 
--- (6) a refusal changes nothing
-abbrev pub Refuses : {K : Kind} → Sys K → Op K → Type 0
-Refuses s x = (c : ℤ) → step s x .1 ≡ denied c → step s x .0 ≡ s
+-- a refusal changes nothing and wakes nobody
+abbrev pub Refuses : {K : Kind} → Run K → List (Op K) → Op K → Type 0
+Refuses R past x = (c : ℤ) → R .answer past x ≡ denied c → (R .state (x ∷ past) ≡ R .state past) × (R .woken past x ≡ [])

@@ -1,6 +1,6 @@
 -- An object of the system in memory, and when what a function does to this memory is the step of the system.
 use mathlib.Core.Path.{_≡_}
-use mathlib.Core.Bool.{Bool, true, false}
+use mathlib.Core.Bool.{true, false}
 use mathlib.Core.List.{List}
 use Prim.Native.Nat.{ℕ, _≤_}
 use lib.IntN.{ℤ}

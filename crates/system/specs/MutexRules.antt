@@ -2,7 +2,7 @@
 use mathlib.Core.Path.{_≡_}
 use mathlib.Core.List.{List, [], _∷_}
 use Prim.Native.Nat.{ℕ, suc, _-_, _≤_, _<_}
-use lib.IntN.{ℤ, pos}
+use lib.IntN.{pos}
 use Rattle.thread.specs.Code.{ok, eperm, ebusy, einval, edeadlk, eoverflow}
 use Rattle.wait_queue.specs.Queue.{ident}
 use Rattle.kind.specs.Kind.{Kind}

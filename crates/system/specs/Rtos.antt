@@ -9,7 +9,8 @@ use Rattle.condvar.specs.Condvar as condvar
 use Rattle.condvar.specs.Condvar.{condvar-kind}
 use Rattle.futex.specs.Futex as futex
 use Rattle.futex.specs.Futex.{Futex, futex-kind}
-use Rattle.system.specs.Sum.{Member, _⊕_}
+use Rattle.system.specs.Part.{Part, whole}
+use Rattle.system.specs.Sum.{Member, _⊕_, inLeft, inRight}
 use Rattle.system.specs.SemRules.{SemMakes, SemRules}
 use Rattle.system.specs.MutexRules.{MutexMakes, MutexRules}
 use Rattle.system.specs.CondvarRules.{CondvarRules}
@@ -31,8 +32,32 @@ condvars = record { kind = condvar-kind; idle = tt; Makes = λ n. Unit {0}; Rule
 abbrev pub futexes : Member
 futexes = record { kind = futex-kind; idle = tt; Makes = FutexMakes; Rules = FutexRules; Foreign = own }
 
+-- the end of the sum: there is no such object
+abbrev pub none-kind : Kind
+none-kind =
+    record {
+      Num = ⊥;
+      Call = ⊥;
+      Wish = Unit {0};
+      formed = λ n w. absurd n;
+      decide = λ n v q w k. absurd n;
+      Blocked = λ n t x. absurd n;
+      Owes = λ k x r. absurd k;
+      new = λ n. absurd n;
+      books = λ n w k r l. absurd n;
+    }
+
+abbrev pub nones : Member
+nones = record { kind = none-kind; idle = tt; Makes = λ n. absurd n; Rules = λ P f s i o n. absurd n; Foreign = own }
+
+-- a further kind is one more line
 abbrev pub members : Member
-members = sems ⊕ mutexes ⊕ condvars ⊕ futexes
+members =
+    sems
+    ⊕ mutexes
+    ⊕ condvars
+    ⊕ futexes
+    ⊕ nones
 
 abbrev pub rtos : Kind
 rtos = members .kind
@@ -48,7 +73,7 @@ abbrev pub aCondvar : rtos .Num
 aCondvar = inr (inr (inl tt))
 
 abbrev pub aFutex : Futex → rtos .Num
-aFutex n = inr (inr (inr n))
+aFutex n = inr (inr (inr (inl n)))
 
 abbrev pub semCall : sem.Call → rtos .Call
 semCall k = inl k
@@ -60,4 +85,11 @@ abbrev pub condvarCall : condvar.Call → rtos .Call
 condvarCall k = inr (inr (inl k))
 
 abbrev pub futexCall : futex.Call → rtos .Call
-futexCall k = inr (inr (inr k))
+futexCall k = inr (inr (inr (inl k)))
+
+-- each kind as a part of the system
+abbrev pub semPart : Part sem-kind rtos
+semPart = inLeft sems (mutexes ⊕ condvars ⊕ futexes ⊕ nones) (whole rtos)
+
+abbrev pub mutexPart : Part mutex-kind rtos
+mutexPart = inLeft mutexes (condvars ⊕ futexes ⊕ nones) (inRight sems (mutexes ⊕ condvars ⊕ futexes ⊕ nones) (whole rtos))

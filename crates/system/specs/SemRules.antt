@@ -2,7 +2,7 @@
 use mathlib.Core.Path.{_≡_}
 use mathlib.Core.List.{[], _∷_}
 use Prim.Native.Nat.{ℕ, suc, _-_, _≤_, _<_}
-use lib.IntN.{ℤ, pos}
+use lib.IntN.{pos}
 use Rattle.thread.specs.Code.{ok, eagain, ebusy}
 use Rattle.kind.specs.Kind.{Kind}
 use Rattle.sem.specs.Sem.{Sem, Call, give, take, tryTake, reset, sem-kind}

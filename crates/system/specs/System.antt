@@ -70,6 +70,11 @@ Reply K = Sys K × Answer × List Woken
 abbrev pub Kernel : Kind → Type 0
 Kernel K = Sys K → Op K → Reply K
 
+-- the state after a history of a kernel, the newest operation in front
+abbrev pub reached : {K : Kind} → Kernel K → Sys K → List (Op K) → Sys K
+reached f s [] = s
+reached f s (x ∷ past) = f (reached f s past) x .0
+
 -- done, and nobody is woken; refused, and nothing changes
 abbrev pub accept : {K : Kind} → Sys K → ℤ → Reply K
 accept s c = (s, done c, [])
@@ -213,7 +218,6 @@ module _ {K : Kind} where
   step s (spawn i p) = spawned s i p
   step s (create o n) = created s o n
 
-  -- the state after a history, the newest operation in front
+  -- the state after a history of our step
   abbrev pub after : Sys K → List (Op K) → Sys K
-  after s [] = s
-  after s (x ∷ past) = step (after s past) x .0
+  after s past = reached step s past

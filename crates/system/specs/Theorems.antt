@@ -1,90 +1,86 @@
--- What holds after every history of the system of semaphores, mutexes, condition variables and futexes, from a start at which there is no
--- object and nobody waits.
+-- The whole statement: laws that hold of our step and of no other kernel, and what follows for every kernel that keeps them, from every start, after
+-- every history.
 use mathlib.Core.Path.{_≡_}
 use mathlib.Core.List.{List, [], _∷_}
-use Prim.Native.Nat.{ℕ, suc, _<_, _≤_}
-use lib.IntN.{pos}
-use lib.ListN.{length}
-use Rattle.thread.specs.Code.{ok, eagain}
-use Rattle.wait_queue.specs.Queue.{maxWaiters, ident}
-use Rattle.sem.specs.Sem.{Sem, give, reset}
-use Rattle.mutex.specs.Mutex.{Mutex, nobody, thread, unlock, release, free, taken}
-use Rattle.condvar.specs.Condvar.{signal, broadcast, wait}
-use Rattle.futex.specs.Futex.{Futex, wakeOne, wakeAll}
-use Rattle.system.specs.System.{running, object, Sys, Op, invoke, both, called, step, after}
-use Rattle.system.specs.Rules.{Placed, Kept}
-use Rattle.system.specs.Order.{Ordered, Only, Wakes, Waits, WakesAll}
+use Prim.Native.Nat.{ℕ, _-_, _≤_, _<_}
+use Rattle.thread.specs.Code.{ok}
+use Rattle.kind.specs.Kind.{Kind}
+use Rattle.sem.specs.Sem.{Sem, take, tryTake, sem-kind}
+use Rattle.sem.specs.Sem as sem
+use Rattle.mutex.specs.Mutex.{Mutex, nobody, thread, lock, tryLock, mutex-kind}
+use Rattle.mutex.specs.Mutex as mutex
+use Rattle.system.specs.System.{waiting, object, Sys, Op, invoke, done, Kernel}
+use Rattle.system.specs.Part.{Part}
+use Rattle.system.specs.Rules.{Placed, Known, Bare, Formed, Own, Kept, Start}
+use Rattle.system.specs.Run.{Run, run}
+use Rattle.system.specs.Order.{Ordered, Best}
 use Rattle.system.specs.Life.{Life, Refuses}
-use Rattle.system.specs.Mutexes.{Mutexes}
-use Rattle.system.specs.Rtos.{rtos, aSem, aMutex, aCondvar, aFutex, semCall, mutexCall, condvarCall, futexCall}
+use Rattle.system.specs.Ledger.{Ledgers}
+use Rattle.system.specs.Laws.{Laws}
+use Rattle.system.specs.Determined.{Determined}
+use Rattle.system.specs.Rtos.{rtos, members, semPart, mutexPart}
 
--- (2) in the words of the objects
-pub record Idle (s : Sys rtos) : Type 0 where
-  -- nobody waits at a semaphore unless its count is 0
-  pub sem : (o : ℕ) (n : Sem) → s .slot o ≡ object (aSem n) → 0 < n .count → s .queue o ≡ []
-  -- nobody waits at a free mutex
-  pub mutex : (o : ℕ) (m : Mutex) → s .slot o ≡ object (aMutex m) → m .owner ≡ nobody → s .queue o ≡ []
+-- of semaphores, in any system that has them
+module _ {K : Kind} (P : Part sem-kind K) (R : Run K) (past : List (Op K)) where
+  -- whose call k is answered 0 had one: the count was above 0, and is one less
+  abbrev pub Took : sem.Call → Type 0
+  Took k =
+      (i o : ℕ) (n : Sem) → R .state past .slot o ≡ object (P .num n) → R .answer past (invoke i o (P .call k)) ≡ done ok
+      → (0 < n .count) × (R .state (invoke i o (P .call k) ∷ past) .slot o ≡ object (P .num (record { count = n .count - 1; limit = n .limit })))
 
--- the thread i gives the mutex a back and waits at the condition variable b
-abbrev pub waitsWith : ℕ → ℕ → ℕ → Op rtos
-waitsWith i a b = both i a (mutexCall release) b (condvarCall wait)
+  pub record Semaphores : Type 0 where
+    -- the count is at most the limit, and nobody waits unless it is 0
+    pub limited : (o : ℕ) (n : Sem) → R .state past .slot o ≡ object (P .num n) → n .count ≤ n .limit
+    pub empty : (o : ℕ) (n : Sem) → R .state past .slot o ≡ object (P .num n) → 0 < n .count → R .state past .queue o ≡ []
+    pub took : Took take
+    pub tried : Took tryTake
 
--- (3), (4) a give, a last unlock, a signal, a wake-up of one and a wait with a mutex wake the first, with 0
-pub record First (s : Sys rtos) (past : List (Op rtos)) : Type 0 where
-  pub give : (i o x : ℕ) (q : List ℕ) (n : Sem) → after s past .slot o ≡ object (aSem n) → after s past .state i ≡ running → after s past .queue o ≡ x ∷ q
-      → Wakes s past (invoke i o (semCall give)) o ok x q []
-  -- the last unlock hands the mutex over, with one lock
-  pub unlock : (i o x : ℕ) (q : List ℕ) → after s past .slot o ≡ object (aMutex (record { owner = thread i; count = 1 })) → after s past .state i ≡ running
-      → after s past .queue o ≡ x ∷ q
-      → Wakes s past (invoke i o (mutexCall unlock)) o ok x q [] × (after s (invoke i o (mutexCall unlock) ∷ past) .slot o ≡ object (aMutex (taken (ident x))))
-  pub signal : (i o x : ℕ) (q : List ℕ) → after s past .slot o ≡ object aCondvar → after s past .state i ≡ running → after s past .queue o ≡ x ∷ q
-      → Wakes s past (invoke i o (condvarCall signal)) o ok x q []
-  pub wake : (i o x : ℕ) (q : List ℕ) (f : Futex) → after s past .slot o ≡ object (aFutex f) → after s past .state i ≡ running → after s past .queue o ≡ x ∷ q
-      → Wakes s past (invoke i o (futexCall wakeOne)) o ok x q []
-  -- the wait of a condition variable hands its mutex over, with one lock, and the caller waits
-  pub wait : (i a b x : ℕ) (q : List ℕ) → after s past .slot a ≡ object (aMutex (record { owner = thread i; count = 1 })) → after s past .slot b ≡ object aCondvar
-      → after s past .state i ≡ running → after s past .queue a ≡ x ∷ q → length (after s past .queue b) < maxWaiters
-      → Wakes s past (waitsWith i a b) a ok x q (i ∷ []) × Waits s past (waitsWith i a b) i b
-      × (after s (waitsWith i a b ∷ past) .slot a ≡ object (aMutex (taken (ident x))))
-  -- with nobody waiting for the mutex it is free
-  pub waitAlone : (i a b : ℕ) → after s past .slot a ≡ object (aMutex (record { owner = thread i; count = 1 })) → after s past .slot b ≡ object aCondvar
-      → after s past .state i ≡ running → after s past .queue a ≡ [] → length (after s past .queue b) < maxWaiters
-      → Only s past (waitsWith i a b) (i ∷ []) × Waits s past (waitsWith i a b) i b
-      × (after s (waitsWith i a b ∷ past) .slot a ≡ object (aMutex free))
+-- the thread i owns the mutex o
+pub record Owns {K : Kind} (P : Part mutex-kind K) (s : Sys K) (o i : ℕ) : Type 0 where
+  pub locks : ℕ
+  pub is : s .slot o ≡ object (P .num (record { owner = thread i; count = locks }))
+  pub least : 0 < locks
 
--- (4) no wake-up is lost: a give to nobody raises the count, unless it is at its limit; a give to somebody leaves it
-pub record Counted (s : Sys rtos) (past : List (Op rtos)) : Type 0 where
-  pub raised : (i o : ℕ) (n : Sem) → after s past .slot o ≡ object (aSem n) → after s past .state i ≡ running → after s past .queue o ≡ []
-      → n .count < n .limit → after s (invoke i o (semCall give) ∷ past) .slot o ≡ object (aSem (record { count = suc (n .count); limit = n .limit }))
-  pub full : (i o : ℕ) (n : Sem) → after s past .slot o ≡ object (aSem n) → after s past .state i ≡ running → after s past .queue o ≡ []
-      → n .limit ≤ n .count → after s (invoke i o (semCall give) ∷ past) .slot o ≡ object (aSem n)
-  pub passed : (i o x : ℕ) (q : List ℕ) (n : Sem) → after s past .slot o ≡ object (aSem n) → after s past .state i ≡ running → after s past .queue o ≡ x ∷ q
-      → after s (invoke i o (semCall give) ∷ past) .slot o ≡ object (aSem n)
+-- of mutexes
+module _ {K : Kind} (P : Part mutex-kind K) (R : Run K) (past : List (Op K)) where
+  -- whose call k is answered 0 owns it
+  abbrev pub Got : mutex.Call → Type 0
+  Got k = (i o : ℕ) (m : Mutex) → R .state past .slot o ≡ object (P .num m) → R .answer past (invoke i o (P .call k)) ≡ done ok → Owns P (R .state (invoke i o (P .call k) ∷ past)) o i
 
--- (7) a reset, a broadcast and a wake-up of all wake exactly those that waited, and answer how many they are
-pub record Everybody (s : Sys rtos) (past : List (Op rtos)) : Type 0 where
-  pub reset : (i o : ℕ) (n : Sem) → after s past .slot o ≡ object (aSem n) → after s past .state i ≡ running
-      → WakesAll s past i o (semCall reset) (aSem n) (λ t. eagain) × (called (after s past) i o (semCall reset) .1 ≡ pos (length (after s past .queue o)))
-  pub broadcast : (i o : ℕ) → after s past .slot o ≡ object aCondvar → after s past .state i ≡ running
-      → WakesAll s past i o (condvarCall broadcast) aCondvar (λ t. ok) × (called (after s past) i o (condvarCall broadcast) .1 ≡ pos (length (after s past .queue o)))
-  pub wake : (i o : ℕ) (f : Futex) → after s past .slot o ≡ object (aFutex f) → after s past .state i ≡ running
-      → WakesAll s past i o (futexCall wakeAll) (aFutex f) (λ t. ok) × (called (after s past) i o (futexCall wakeAll) .1 ≡ pos (length (after s past .queue o)))
+  pub record Mutexes : Type 0 where
+    -- one that somebody owns has at least one lock; a free one has none, and nobody waits for it
+    pub locked : (o i : ℕ) (m : Mutex) → R .state past .slot o ≡ object (P .num m) → m .owner ≡ thread i → 0 < m .count
+    pub idle : (o : ℕ) (m : Mutex) → R .state past .slot o ≡ object (P .num m) → m .owner ≡ nobody → (m .count ≡ 0) × (R .state past .queue o ≡ [])
+    -- the owner does not wait for it
+    pub apart : (o i : ℕ) (m : Mutex) → R .state past .slot o ≡ object (P .num m) → m .owner ≡ thread i → R .state past .state i ≡ waiting o → ⊥
+    pub got : Got lock
+    pub tried : Got tryLock
 
-pub record Theorems (s : Sys rtos) (past : List (Op rtos)) : Type 0 where
-  -- every thread is running, ready, or in exactly one queue, once
-  pub placed : Placed (after s past)
+-- what holds after a history
+pub record Theorems (R : Run rtos) (past : List (Op rtos)) : Type 0 where
+  -- every thread is running, ready, or in exactly one queue, once; it has a 32-bit id and a priority, which its entry tells
+  pub placed : Placed (R .state past)
+  pub known : Known (R .state past)
+  pub own : Own (R .state past)
+  -- each object is as it should be, and nobody waits where there is none
+  pub formed : Formed (R .state past)
+  pub bare : Bare (R .state past)
   -- no thread waits while what it waits for is there
-  pub kept : Kept (after s past)
-  pub idle : Idle (after s past)
-  -- every queue is in the order in which it is to be woken, and the first is woken
-  pub ordered : Ordered s past
-  pub first : First s past
-  -- all that the next step can do to a thread
-  pub life : (x : Op rtos) (t : ℕ) → Life rtos (after s past .wish) x (step (after s past) x .1) t (after s past .state t) (after s (x ∷ past) .state t)
-  pub counted : Counted s past
-  -- of each mutex: its owner, and the owner's locks minus its unlocks
-  pub mutexes : Mutexes s past
+  pub kept : Kept (R .state past)
+  -- every queue is in the order in which it is to be woken, and who is woken comes before all that wait on
+  pub ordered : Ordered R past
+  pub best : (x : Op rtos) → Best R past x
+  -- all that the next operation can do to a thread
+  pub life : (x : Op rtos) (t : ℕ) → Life rtos (R .state past .wish) x (R .answer past x) t (R .state past .state t) (R .state (x ∷ past) .state t)
   -- a refusal changes nothing
-  pub refuses : (x : Op rtos) → Refuses (after s past) x
-  -- those that are woken together
-  pub everybody : Everybody s past
+  pub refuses : (x : Op rtos) → Refuses R past x
+  -- each object is what its ledger says
+  pub ledgers : Ledgers R past
+  pub semaphores : Semaphores semPart R past
+  pub mutexes : Mutexes mutexPart R past
+
+pub record Whole : Type 0 where
+  -- our step keeps the laws, and whatever keeps them is our step
+  pub determined : Determined members
+  -- and this follows
+  pub theorems : (f : Kernel rtos) → Laws members f → (s : Sys rtos) → Start s → (past : List (Op rtos)) → Theorems (run f s) past
