@@ -1,6 +1,6 @@
 -- Runs of a message queue, computed. Assumes nothing.
 use mathlib.Core.Path.{_≡_, refl}
-use mathlib.Core.Bool.{true, false}
+use mathlib.Core.Bool.{Bool, true, false}
 use mathlib.Core.List.{List, [], _∷_, _++_}
 use Prim.Native.Nat.{ℕ}
 use lib.IntN.{ℤ, pos}
@@ -14,7 +14,6 @@ use Rattle.msgq.specs.Post.{sound, held, new, may, putDecision, getDecis
 use Rattle.store.specs.History.{Step, Ran, fresh, ran}
 use Rattle.msgq.specs.History.{Call, putting, puttingFront, getting, purging, does, gives, sent, got, line}
 use Rattle.msgq.specs.HandOver.{Waited, Event, stored, ends}
-use Rattle.msgq.specs.HandOver as event
 
 -- three slots of two bytes, and a byte that is not the queue's; the first message stands in the last slot
 abbrev header : List ℕ
@@ -78,18 +77,38 @@ purged = (refl, refl, refl, refl)
 
 -- ---- those that wait
 
+abbrev event : Call → Bool → Event
+event k b = record { call = k; noWait = b }
+
 abbrev with : List Event → Waited
-with es = ends (record { queue = new 1 2 (0 ∷ 0 ∷ []); readers = 0; writers = []; sent = []; got = [] }) es
+with es = ends (record { queue = new 1 2 (0 ∷ 0 ∷ []); readers = 0; writers = []; got = []; line = []; turned = [] }) es
 
 -- a reader waits, and 1 is handed to it; 2 and 3 are stored, 4 and 5 wait for room, 6 would not wait; a get lets 4 in
 abbrev events : List Event
 events =
-    event.getting false ∷ event.putting (m 1) false ∷ event.putting (m 2) true ∷ event.putting (m 3) true ∷ event.putting (m 4) false ∷ event.putting (m 5) false ∷ event.putting (m 6) true ∷ event.getting true ∷ []
+    event (getting 1) false ∷ event (putting (m 1)) false ∷ event (putting (m 2)) true ∷ event (putting (m 3)) true ∷ event (putting (m 4)) false ∷ event (putting (m 5)) false
+    ∷ event (putting (m 6)) true ∷ event (getting 1) true ∷ []
 
-pub waited : (with (event.getting false ∷ []) .readers ≡ 1) × (with (event.getting false ∷ event.putting (m 1) false ∷ []) .got ≡ m 1 ∷ []) × (with events .got ≡ m 1 ∷ m 2 ∷ [])
-    × (with events .queue .ring .held ≡ m 3 ∷ m 4 ∷ []) × (with events .writers ≡ m 5 ∷ []) × (with events .sent ≡ m 1 ∷ m 2 ∷ m 3 ∷ m 4 ∷ m 5 ∷ [])
+pub waited : (with (event (getting 1) false ∷ []) .readers ≡ 1) × (with (event (getting 1) false ∷ event (putting (m 1)) false ∷ []) .got ≡ m 1 ∷ []) × (with events .got ≡ m 1 ∷ m 2 ∷ [])
+    × (with events .queue .ring .held ≡ m 3 ∷ m 4 ∷ []) × (with events .writers ≡ m 5 ∷ []) × (with events .line ≡ m 1 ∷ m 2 ∷ m 3 ∷ m 4 ∷ m 5 ∷ [])
 unfolding slots turn wrap
 waited = (refl, refl, refl, refl, refl, refl)
+
+-- a put at the front where a reader waits goes to the reader; a message of two bytes is refused
+abbrev ahead : Waited
+ahead = with (event (getting 1) false ∷ event (puttingFront (m 7)) true ∷ event (puttingFront (7 ∷ 8 ∷ [])) true ∷ [])
+
+pub handed-on : (ahead .got ≡ m 7 ∷ []) × (ahead .readers ≡ 0) × (used (ahead .queue) ≡ 0) × (ahead .line ≡ m 7 ∷ [])
+unfolding slots turn wrap
+handed-on = (refl, refl, refl, refl)
+
+-- 1 and 2 are held, and the writer with 3 waits; a purge drops 1 and 2 and wakes it with -35; then 4 is stored
+abbrev cut : Waited
+cut = with (event (putting (m 1)) true ∷ event (putting (m 2)) true ∷ event (putting (m 3)) false ∷ event purging true ∷ event (putting (m 4)) true ∷ [])
+
+pub purged-all : (cut .turned ≡ m 3 ∷ []) × (cut .writers ≡ []) × (cut .queue .ring .held ≡ m 4 ∷ []) × (cut .line ≡ m 4 ∷ [])
+unfolding slots turn wrap
+purged-all = (refl, refl, refl, refl)
 
 -- the decisions behind it
 pub decided : (putDecision 1 0 2 true false ≡ accept (counts 1 0) wakesReader) × (putDecision 1 1 2 false true ≡ accept (counts 0 2) ok) × (putDecision 0 2 2 false true ≡ refuse enomsg)
@@ -100,7 +119,7 @@ decided = (refl, refl, refl, refl, refl, refl, refl, refl)
 
 -- a reader that waits while 1 is held. If 2 were handed to it, 2 would come out before 1; a put and a get give it 1
 abbrev one-held : Msgq
-one-held = with (event.putting (m 1) true ∷ []) .queue
+one-held = with (event (putting (m 1)) true ∷ []) .queue
 
 pub overtakes : ((m 2 ∷ []) ++ one-held .ring .held ≡ m 2 ∷ m 1 ∷ []) × (one-held .ring .held ++ m 2 ∷ [] ≡ m 1 ∷ m 2 ∷ []) × (getD (stored (m 2) one-held .ring .held) 0 [] ≡ m 1)
     × (putDecision (writeIdx one-held) (used one-held) (max one-held) true false ≡ refuse einval)

@@ -1,35 +1,56 @@
--- With readers and writers that wait, messages come out in the order in which they were put. Assumes nothing.
+-- With readers and writers that wait, any calls keep the line. Assumes nothing.
 use mathlib.Core.Path.{_≡_, refl, sym, ap, _∙_}
-use mathlib.Core.Bool.{true}
+use mathlib.Core.Bool.{Bool, true}
 use mathlib.Core.List.{List, [], _∷_, _++_, append-assoc}
 use Prim.Native.Nat.{ℕ, suc, _+_, _<_}
 use native.Mathlib.Omega.{arith}
 use borrow.Author.Tests.{ne-eqb}
-use lib.ListN.{length, drop, getD, length-append, length-drop}
-use lib.Seq.{append-snoc, drop-append-seam}
+use lib.ListN.{length, take, drop, getD, length-append, length-drop}
+use lib.Seq.{append-snoc, take-append-seam, drop-append-seam, drop-length}
 use Rattle.seq.specs.List.{All}
-use Rattle.store.specs.Store.{accept}
-use Rattle.ring_buf.specs.Ring.{wrap, append, leave}
+use Rattle.store.specs.Store.{Reply, accept, answer, left}
+use Rattle.ring_buf.specs.Ring.{wrap, append, lead, leave}
 use Rattle.msgq.specs.Msgq.{Msgq, counts, having, max, used, readIdx, writeIdx, wakesWriter}
 use Rattle.msgq.specs.Post.{new}
-use Rattle.msgq.specs.History.{Good}
-use Rattle.msgq.specs.HandOver.{Waited, Event, putting, getting, stored, read, happens, ends, Sized, Fair, HandsOver, Refills, Refused, OnlyEmpty}
+use Rattle.msgq.specs.History.{Call, putting, puttingFront, getting, peeking, purging, Good}
+use Rattle.msgq.specs.HandOver.{Waited, Event, decision, stored, led, read, happens, ends, Fair, Purged, HandsOver, Refills, Refused, OnlyEmpty}
 use Rattle.msgq.proofs.Decisions.{put-wakes, get-wakes}
-use Rattle.msgq.proofs.Calls.{stores, reads}
-use Rattle.msgq.proofs.Goods.{good-put, good-leave}
+use Rattle.msgq.proofs.Calls.{stores, front-yes, reads}
+use Rattle.msgq.proofs.Goods.{good-put, good-front, good-leave}
 use Rattle.msgq.proofs.Histories.{new-good}
 use Rattle.msgq.proofs.Agreements.{read-within, write-within}
-use Rattle.msgq.proofs.Waiters.{put-sane, get-sane, waited, put-fair, get-fair}
+use Rattle.msgq.proofs.Waiters.{put-sane, get-sane, After, by-size, put-fair, front-fair, peek-fair, purge-fair}
+use Rattle.msgq.proofs.Getters.{waited, get-fair}
 
-pub fair : (c z : ℕ) (s : Waited) (es : List Event) → All (Sized z) es → Fair c z s → Fair c z (ends s es)
-fair c z s [] a p = p
-fair c z s (putting m k ∷ es) a p = fair c z (happens s (putting m k)) es (a .1) (put-fair c z s p m k (a .0))
-fair c z s (getting k ∷ es) a p = fair c z (happens s (getting k)) es (a .1) (get-fair c z (s .queue) (s .readers) (s .writers) (s .sent) (s .got) k p)
+-- one call
+keeps : (c z : ℕ) (s : Waited) (p : Fair c z s) (k : Call) (b : Bool) → After c z s p k b
+keeps c z s p (putting m) b = by-size c z s p (putting m) b (length m) _ refl (put-fair c z s p m b)
+keeps c z s p (puttingFront m) b = by-size c z s p (puttingFront m) b (length m) _ refl (front-fair c z s p m b)
+keeps c z s p (getting n) b =
+    by-size c z s p (getting n) b n _ refl (λ e. get-fair c z (s .queue) (s .readers) (s .got) (s .line) (s .turned) n b e (s .writers) p)
+keeps c z s p (peeking n i) b = peek-fair c z s p n i (answer (decision (peeking n i) b s))
+keeps c z s p purging b = purge-fair c z s p b
 
-pub always-fair : (c z : ℕ) (b : List ℕ) (es : List Event) → 0 < c → All (Sized z) es → Fair c z (ends (waited (new z c b) 0 [] [] []) es)
-always-fair c z b es f a =
-    fair c z (waited (new z c b) 0 [] [] []) es a
+pub fair : (c z : ℕ) (s : Waited) (es : List Event) → Fair c z s → Fair c z (ends s es)
+fair c z s [] p = p
+fair c z s (e ∷ es) p = fair c z (happens s e) es (keeps c z s p (e .call) (e .noWait))
+
+-- any calls on a new queue of c messages of z bytes, for which nobody waits
+pub always-fair : (c z : ℕ) (b : List ℕ) (es : List Event) → 0 < c → Fair c z (ends (waited (new z c b) 0 [] [] [] []) es)
+always-fair c z b es f =
+    fair c z (waited (new z c b) 0 [] [] [] []) es
     (record { good = new-good c z b f; sizes = tt; no-message = λ v. refl; no-room = λ v. absurd (omega arith); line = refl })
+
+pub purges : (c z : ℕ) (s : Waited) (b : Bool) → Fair c z s → Purged s (happens s (record { call = purging; noWait = b }))
+purges c z s b p =
+    record {
+      none-held = drop-length (s .queue .ring .held);
+      no-writer = refl;
+      woken = refl;
+      readers = refl;
+      cut = ap (take (length (s .got))) (sym (p .line)) ∙ take-append-seam (s .got) (s .queue .ring .held ++ s .writers);
+      out = refl;
+    }
 
 -- ---- what a hand-over is
 
@@ -41,10 +62,14 @@ module _ (c z : ℕ) (q : Msgq) (g : Good c z q) where
       let x = stores c z q g m e h in
       let a = having (append (m ∷ []) (q .ring)) q in
       let y = reads c z a (good-put c z q g m h e) (omega (arith, length-append (q .ring .held) (m ∷ []))) in
+      let l : led m q ≡ having (lead m (q .ring)) q = ap (λ (t : Reply Msgq). left t q) (front-yes c z q g m e h) in
+      let v = reads c z (having (lead m (q .ring)) q) (good-front c z q g m h e) (omega arith) in
       record {
         decided = λ k. put-wakes (writeIdx q) (used q) (max q) true k (put-sane c z q g true (λ v. f)) (λ v. absurd (omega (arith, g .max))) refl;
         same = ap (λ (t : Msgq). read t .ring .held) x ∙ ap (λ (t : Msgq). t .ring .held) y ∙ ap (λ (l : List (List ℕ)). drop 1 (l ++ m ∷ [])) n ∙ sym n;
         gets-it = ap (λ (t : Msgq). getD (t .ring .held) 0 []) x ∙ ap (λ (l : List (List ℕ)). getD (l ++ m ∷ []) 0 []) n;
+        same-front = ap (λ (t : Msgq). read t .ring .held) l ∙ ap (λ (t : Msgq). t .ring .held) v;
+        gets-front = ap (λ (t : Msgq). getD (t .ring .held) 0 []) l;
       }
 
   pub refills : (w : List ℕ) → length w ≡ z → used q ≡ c → Refills w q

@@ -11,6 +11,7 @@ pub mod Steps
 pub mod Histories
 pub mod Agreements
 pub mod Waiters
+pub mod Getters
 pub mod HandOvers
 pub mod Example
 pub mod Implied
