@@ -11,10 +11,10 @@ use lib.IntN.{ℤ}
 use lib.ListN.{getD}
 use Rattle.seq.proofs.Order.{cond-same}
 use Rattle.thread.specs.Code.{einval}
-use Rattle.store.specs.Store.{Reply, refuse, Decided, Did, looks}
+use Rattle.store.specs.Store.{Reply, refuse, answer, Decided, Did, looks, handed, Filled}
 use Rattle.store.proofs.Laws.{kept-bad, kept-no, looks-bad, declined}
 use Rattle.ring_buf.specs.Bytes.{numbers}
-use Rattle.msgq.specs.Msgq.{Msgq, puts, gets, given}
+use Rattle.msgq.specs.Msgq.{Msgq, puts, gets, given, peek, seen}
 use Rattle.msgq.specs.Post.{sound, messages, putDecision, getDecision, putFrontDecision, peekDecision, Settled}
 use Rattle.msgq.specs.History.{Call, does}
 use Rattle.msgq.proofs.Decisions.{peek-insane}
@@ -29,6 +29,14 @@ module _ (h b : List ℕ) {r : ℤ} {h' b' : List ℕ} where
   pub size-refuses : (n : ℕ) (f : Msgq → Reply Msgq) → sound h b ≡ true → (n ≡ getD h 3 0 → ⊥)
       → Did messages (λ (q : Msgq). given (eqb n (q .size)) (f q)) h b r h' b' → (r ≡ einval) × (h' ≡ h) × (b' ≡ b)
   size-refuses n f e g d = kept-no messages (λ (q : Msgq). given (eqb n (q .size)) (f q)) h b d e (rw (ne-eqb n (getD h 3 0) g))
+
+-- a look with a place of another size: told -22, and the place stays
+module _ (h b : List ℕ) (n i : ℕ) (f : sound h b ≡ true) (e : n ≡ getD h 3 0 → ⊥) where
+  pub peek-refuses : (r : ℤ) → r ≡ looks messages (λ (q : Msgq). answer (peek n i q)) h b → r ≡ einval
+  peek-refuses r d = d ∙ rw (f, ne-eqb n (getD h 3 0) e)
+
+  pub place-stays : (o o' : List ℕ) → Filled (handed messages (seen n i) h b) o o' → o' ≡ o
+  place-stays o o' d = d ∙ rw (f, ne-eqb n (getD h 3 0) e)
 
 pub look-refuses : (h b : List ℕ) (r : ℤ) (f : Msgq → ℤ) → sound h b ≡ false → r ≡ looks messages f h b → r ≡ einval
 look-refuses h b r f e d = d ∙ looks-bad messages h b f e
