@@ -11,8 +11,8 @@ use Rattle.seq.specs.List.{any}
 use Rattle.thread.specs.Code.{ok, ebusy}
 use Rattle.store.specs.Store.{answer, settled}
 use Rattle.stack.specs.Stack.{Stack, wakesWaiter, waits, right, pushes, pops, push}
-use Rattle.stack.specs.History.{after, depth}
-use Rattle.stack.specs.HandOver.{Waited, Event, put, get, step, out, calls, handedOut, Decides}
+use Rattle.stack.specs.History.{depth}
+use Rattle.stack.specs.HandOver.{Waited, Event, put, get, step, out, after, calls, handedOut, Decides}
 use Rattle.stack.proofs.Calls.{mk, push-some, push-none, pop-some}
 
 -- the one with those that wait, w, and the other, t, which holds the same

@@ -2,14 +2,17 @@
 use mathlib.Core.Path.{_≡_, refl}
 use mathlib.Core.Bool.{true, false}
 use mathlib.Core.List.{List, [], _∷_}
+use Prim.Native.Nat.{ℕ}
 use native.Mathlib.Omega.{arith}
-use lib.IntN.{pos}
+use lib.IntN.{ℤ, pos}
 use Rattle.thread.specs.Code.{ok, enomem, ebusy, einval}
 use Rattle.store.specs.Store.{accept, refuse, answer, looks, handed}
+use Rattle.store.specs.History.{Step, Ran, ran, Made, begun, made}
+use Rattle.store.specs.History as history
 use Rattle.stack.specs.Stack.{Stack, wakesWaiter, waits, pops, pushDecide, pop, popped, used, free, full, empty, fresh, may}
 use Rattle.stack.specs.Post.{place}
-use Rattle.stack.specs.History.{Call, pushing, popping, does, after, Lies, pushed, stayed, Made, begun, made}
-use Rattle.stack.specs.HandOver.{Waited, Event, put, get, ends, allCalls, allOut}
+use Rattle.stack.specs.History.{Call, pushing, popping, does, gives, count, Lies, pushed, stayed}
+use Rattle.stack.specs.HandOver.{Waited, Event, put, get, ends, after, allCalls, allOut}
 use Rattle.stack.proofs.Answers as answers
 
 -- room for two in a memory of three
@@ -29,9 +32,32 @@ held-is = (refl, refl, refl)
 pub popped-is : (popped (after new two) ≡ 6 ∷ []) × (popped (after new (popping ∷ two)) ≡ 5 ∷ []) × (after new (popping ∷ two) .spare ≡ 6 ∷ [])
 popped-is = (refl, refl, refl)
 
+-- as the callers see it: 5 and 6 are pushed, 7 finds no room; 6 comes out, then 5; then there is no word, and the place stays. The last stands first
+abbrev saw : Call → ℤ → List ℕ → Step Call
+saw k a o = record { call = k; answer = a; out = o }
+
+abbrev pushes : List (Step Call)
+pushes = saw (pushing 7) enomem [] ∷ saw (pushing 6) ok [] ∷ saw (pushing 5) ok [] ∷ []
+
+abbrev steps : List (Step Call)
+steps = saw popping ebusy (9 ∷ []) ∷ saw popping ok (5 ∷ []) ∷ saw popping ok (6 ∷ []) ∷ pushes
+
+pub happened : Ran does gives new steps (after new (popping ∷ popping ∷ two))
+happened =
+    ran {k = popping} (9 ∷ []) (9 ∷ [])
+    (ran {k = popping} (0 ∷ []) (5 ∷ [])
+    (ran {k = popping} (0 ∷ []) (6 ∷ [])
+    (ran {k = pushing 7} [] [] (ran {k = pushing 6} [] [] (ran {k = pushing 5} [] [] history.fresh refl) refl) refl) refl) refl) refl
+
+pub count-is : (count pushes ≡ 2) × (count steps ≡ 0)
+count-is = (refl, refl)
+
 -- 5 lies on no other, and does so while 6 comes and goes
-pub five-lies : Lies new 5 0 (popping ∷ two)
-five-lies = stayed {k = popping} {ks = two} (stayed {k = pushing 6} {ks = pushing 5 ∷ []} (pushed {ks = []} refl (omega arith)) (omega arith)) (omega arith)
+pub five-lies : Lies 5 0 (saw popping ok (6 ∷ []) ∷ pushes)
+five-lies =
+    stayed {t = saw popping ok (6 ∷ [])} {ts = pushes}
+    (stayed {t = saw (pushing 7) enomem []} {ts = saw (pushing 6) ok [] ∷ saw (pushing 5) ok [] ∷ []}
+    (stayed {t = saw (pushing 6) ok []} {ts = saw (pushing 5) ok [] ∷ []} (pushed {ts = []} refl refl refl) (omega arith)) (omega arith)) (omega arith)
 
 -- in memory, with a word more than it can hold
 pub memory-is : (place .formed (2 ∷ 1 ∷ []) (5 ∷ 0 ∷ 9 ∷ []) ≡ true) × (looks place used (2 ∷ 1 ∷ []) (5 ∷ 0 ∷ 9 ∷ []) ≡ pos 1)
@@ -44,8 +70,8 @@ pub malformed-is : (looks place used (0 ∷ 0 ∷ []) (5 ∷ []) ≡ einval) × 
     × (looks place used (2 ∷ 1 ∷ []) (5 ∷ []) ≡ einval) × (looks place used (2 ∷ []) (5 ∷ 6 ∷ []) ≡ einval)
 malformed-is = (refl, refl, refl, refl)
 
-pub made-one : Made (2 ∷ 1 ∷ []) (5 ∷ 0 ∷ 9 ∷ []) (pushing 6 ∷ []) (2 ∷ 2 ∷ []) (5 ∷ 6 ∷ 9 ∷ [])
-made-one = made begun (answers.pushed (2 ∷ 1 ∷ []) (5 ∷ 0 ∷ 9 ∷ []) refl 6 (omega arith))
+pub made-one : Made place does gives (2 ∷ 1 ∷ []) (5 ∷ 0 ∷ 9 ∷ []) (saw (pushing 6) ok [] ∷ []) (2 ∷ 2 ∷ []) (5 ∷ 6 ∷ 9 ∷ [])
+made-one = made [] [] begun (answers.pushed (2 ∷ 1 ∷ []) (5 ∷ 0 ∷ 9 ∷ []) refl 6 (omega arith)) refl
 
 -- on plain numbers
 pub decided-is : (pushDecide 0 2 true ≡ accept 0 wakesWaiter) × (pushDecide 1 2 false ≡ accept 2 ok) × (pushDecide 2 2 false ≡ refuse enomem)

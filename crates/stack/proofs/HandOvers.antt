@@ -6,8 +6,8 @@ use Prim.Native.Nat.{ℕ, _≤_, _<_}
 use native.Mathlib.Omega.{arith}
 use lib.ListN.{length}
 use Rattle.stack.specs.Stack.{Stack, fresh, may}
-use Rattle.stack.specs.History.{Call, pushing, popping, next, after}
-use Rattle.stack.specs.HandOver.{Waited, Event, step, out, ends, calls, allCalls, handedOut, allOut, Alike}
+use Rattle.stack.specs.History.{Call, pushing, popping, next}
+use Rattle.stack.specs.HandOver.{Waited, Event, step, out, ends, after, calls, allCalls, handedOut, allOut, Alike}
 use Rattle.stack.proofs.Memory.{may-is}
 use Rattle.stack.proofs.Events.{Same, goes, decides}
 use Rattle.stack.proofs.Calls.{mk}

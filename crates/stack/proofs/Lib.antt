@@ -2,6 +2,7 @@ pub mod Memory
 pub mod Numbers
 pub mod Answers
 pub mod Calls
+pub mod Standing
 pub mod Histories
 pub mod Traces
 pub mod Events

@@ -1,30 +1,21 @@
 -- Calls in memory are the calls of which the promises speak, and the words stand in the order of the memory. Assumes nothing.
 use mathlib.Core.Path.{_≡_, refl, sym, ap, subst, _∙_}
-use mathlib.Core.Bool.{true}
+use mathlib.Core.Bool.{Bool, true, false, cond}
 use mathlib.Core.List.{List, [], _∷_, _++_}
-use Prim.Native.Nat.{ℕ, zero, suc}
+use Prim.Native.Nat.{ℕ, zero, suc, _≤_}
 use native.Mathlib.Omega.{arith}
 use lib.IntN.{ℤ}
-use lib.ListN.{length, getD}
+use lib.ListN.{length, take, getD, length-take}
 use Rattle.seq.specs.List.{back}
 use Rattle.seq.proofs.Back.{back-length}
 use Rattle.thread.specs.Code.{ok}
-use Rattle.store.specs.Store.{Reply, refuse, accept, After, Did, Started, left}
-use Rattle.store.proofs.Laws.{replies}
-use Rattle.stack.specs.Stack.{Stack, fresh, may}
+use Rattle.store.specs.Store.{Did, handed, Filled, first, Started}
+use Rattle.store.specs.History.{Step, Made, made}
+use Rattle.store.proofs.Histories.{first-filled, from-start, allowed}
+use Rattle.stack.specs.Stack.{push, pop, popped, fresh, may}
 use Rattle.stack.specs.Post.{place}
-use Rattle.stack.specs.History.{Call, does, next, after, Stands, Made, begun, made, Kept}
-
--- one call
-leaves : (y : Reply Stack) (h w h' w' : List ℕ) → place .formed h w ≡ true → After place y h w h' w'
-    → (place .formed h' w' ≡ true) × (place .object h' w' ≡ left y (place .object h w))
-leaves (refuse r) h w h' w' e a = rw (a .0, a .1) (e, refl)
-leaves (accept s r) h w h' w' e a = (a .formed, a .object)
-
-pub one : (k : Call) (h w h' w' : List ℕ) {r : ℤ} → place .formed h w ≡ true → Did place (does k) h w r h' w'
-    → (place .formed h' w' ≡ true) × (place .object h' w' ≡ next (place .object h w) k)
-one k h w h' w' e d =
-    leaves (does k (place .object h w)) h w h' w' e (subst (λ (y : Reply Stack). After place y h w h' w') (replies place (does k) h w e) (d .after))
+use Rattle.stack.specs.History.{Call, pushing, popping, does, gives, Stands, Kept}
+use Rattle.stack.proofs.Histories.{promised}
 
 -- of the first n words, the one that stands on d others is word d
 word : (x d : ℕ) (w : List ℕ) (n : ℕ) → Stands x d (back w n) → getD w d 0 ≡ x
@@ -40,14 +31,28 @@ word x d w n s = go n (s .over) (s .below) (s .is) (s .low)
         subst (λ (m : ℕ). getD w m 0 ≡ x) i y
     go (suc n) (o ∷ over) below e f = go n over below (cc) f
 
-pub kept : (h₀ w₀ : List ℕ) → place .formed h₀ w₀ ≡ true → {ks : List Call} {h w : List ℕ} → Made h₀ w₀ ks h w → Kept h₀ w₀ ks h w
-kept h₀ w₀ e begun = record { formed = e; is = refl; word = λ x d s. word x d w₀ (getD h₀ 1 0) s }
-kept h₀ w₀ e (made {k} {ks} {h} {w} {h'} {w'} m d) =
-    let a = kept h₀ w₀ e m in
-    let b = one k h w h' w' (a .formed) d in
-    record { formed = b .0; is = b .1 ∙ ap (λ (s : Stack). next s k) (a .is); word = λ x d s. word x d w' (getD h' 1 0) s }
+-- after an init that is answered 0, and any calls
+pub from-init : (c : ℕ) {h w h₀ w₀ : List ℕ} → Started place (may c w) (fresh c w) h w ok h₀ w₀ → {ts : List (Step Call)} {h' w' : List ℕ}
+    → Made place does gives h₀ w₀ ts h' w' → Kept c ts h' w'
+from-init c {w = w} s {h' = h'} {w' = w'} m =
+    let a = from-start place does gives s m in
+    let p = promised c w (allowed s) (a .1) in
+    record { formed = a .0; promise = p; word = λ x d l. word x d w' (getD h' 1 0) (p .stands x d l) }
 
--- after an init that is answered 0, and any calls: the promises on a new stack hold of the memory
-pub from-init : (c : ℕ) (h w h₀ w₀ : List ℕ) → Started place (may c w) (fresh c w) h w ok h₀ w₀ → {ks : List Call} {h' w' : List ℕ} → Made h₀ w₀ ks h' w'
-    → place .object h' w' ≡ after (fresh c w) ks
-from-init c h w h₀ w₀ s {ks} m = kept h₀ w₀ (s .made refl .formed) m .is ∙ ap (λ (t : Stack). after t ks) (s .made refl .object)
+-- each function makes a step: what it ensures is what a step needs
+module _ {h₀ w₀ : List ℕ} {ts : List (Step Call)} {h w h' w' : List ℕ} {r : ℤ} (m : Made place does gives h₀ w₀ ts h w) where
+  pub push-made : (x : ℕ) → Did place (push x) h w r h' w' → Made place does gives h₀ w₀ (record { call = pushing x; answer = r; out = [] } ∷ ts) h' w'
+  push-made x d = made [] [] m d (nothing (place .formed h w))
+    where
+      nothing : (b : Bool) → Filled (cond b (gives (pushing x) (place .object h w)) []) [] []
+      nothing true = refl
+      nothing false = refl
+
+  -- x was in the word that is lent, and now y is
+  pub pop-made : (x y : ℕ) → Did place pop h w r h' w' → y ≡ first x (handed place popped h w)
+      → Made place does gives h₀ w₀ (record { call = popping; answer = r; out = y ∷ [] } ∷ ts) h' w'
+  pop-made x y d e = made (x ∷ []) (y ∷ []) m d (first-filled (handed place popped h w) x y (at-most (place .formed h w) (place .object h w .held)) e)
+    where
+      at-most : (b : Bool) (l : List ℕ) → length (cond b (take 1 l) []) ≤ 1
+      at-most true l = omega (arith, length-take 1 l)
+      at-most false l = omega arith

@@ -16,7 +16,7 @@ use Rattle.stack.specs.History.{Call, pushing, popping, does, next, dept
 use Rattle.stack.specs.Upstream.{Inv, Housed, Push, Pop, Stored, Taken}
 use Rattle.stack.proofs.Memory.{is-sound, formed}
 use Rattle.stack.proofs.Calls.{mk, push-some, push-none, pop-some, Does, stores, no-room, takes, nothing, which}
-use Rattle.stack.proofs.Traces.{one}
+use Rattle.store.proofs.Histories.{done}
 
 -- memory is as it should be exactly if upstream's invariant holds of the stack in it, and it is housed
 pub inv-formed : (h w : List ℕ) → Housed h w → Inv (place .object h w) → place .formed h w ≡ true
@@ -77,7 +77,7 @@ module _ (h w : List ℕ) (r : ℤ) (h' w' : List ℕ) where
   holds : (k : Call) (R : ℤ → Stack → Type 0) → place .formed h w ≡ true → Did place (does k) h w r h' w'
       → R (answer (does k (place .object h w))) (next (place .object h w) k) → R r (place .object h' w')
   holds k R e d a =
-      subst (λ (s : Stack). R r s) (sym (one k h w h' w' e d .1))
+      subst (λ (s : Stack). R r s) (sym (done place (does k) h w e d .1))
       (subst (λ (z : ℤ). R z (next (place .object h w) k)) (sym (answers place (does k) h w d e)) a)
 
   module _ (k : Housed h w) (i : Inv (place .object h w)) where

@@ -9,7 +9,7 @@ use Rattle.seq.specs.List.{any}
 use Rattle.thread.specs.Code.{ok, ebusy}
 use Rattle.store.specs.Store.{answer, settled}
 use Rattle.stack.specs.Stack.{Stack, wakesWaiter, waits, right, pops, pushDecide, push, popped}
-use Rattle.stack.specs.History.{Call, pushing, popping, next, after, depth}
+use Rattle.stack.specs.History.{Call, pushing, popping, next, depth}
 
 -- a stack, and how many wait for a word of it
 pub record Waited : Type 0 where
@@ -39,6 +39,11 @@ out s (get noWait) = popped (s .stack)
 abbrev pub ends : Waited → List Event → Waited
 ends s [] = s
 ends s (e ∷ es) = step (ends s es) e
+
+-- after the calls ks, of which the last stands first
+abbrev pub after : Stack → List Call → Stack
+after s [] = s
+after s (k ∷ ks) = next (after s ks) k
 
 -- the pushes and pops that come to the same, the last first: a word that is handed over is pushed and popped; who begins to wait does nothing
 abbrev pub calls : Waited → Event → List Call

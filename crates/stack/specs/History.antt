@@ -1,12 +1,15 @@
--- What holds of a stack after any sequence of calls: which word is where, and which a pop hands out.
+-- What holds of a stack after any sequence of calls, refused ones too: told from the calls, their answers, and the word that then stands in the
+-- place that was lent to a pop.
 use mathlib.Core.Path.{_≡_}
-use mathlib.Core.Bool.{true}
+use mathlib.Core.Bool.{true, cond}
 use mathlib.Core.List.{List, [], _∷_, _++_}
 use Prim.Native.Nat.{ℕ, suc, _+_, _-_, _≤_, _<_}
-use lib.IntN.{ℤ, negsuc}
+use lib.Dec.{ltb}
+use lib.IntN.{ℤ, pos, negsuc}
 use lib.ListN.{length, getD}
-use Rattle.thread.specs.Code.{ok}
-use Rattle.store.specs.Store.{Reply, answer, Did, left}
+use Rattle.thread.specs.Code.{ok, enomem, ebusy}
+use Rattle.store.specs.Store.{Reply, answer, left}
+use Rattle.store.specs.History.{Step}
 use Rattle.stack.specs.Stack.{Stack, push, pop, popped}
 use Rattle.stack.specs.Post.{place}
 
@@ -18,17 +21,44 @@ abbrev pub does : Call → Stack → Reply Stack
 does (pushing x) s = push x s
 does popping s = pop s
 
+abbrev pub gives : Call → Stack → List ℕ
+gives (pushing x) s = []
+gives popping s = popped s
+
 abbrev pub next : Stack → Call → Stack
 next s k = left (does k s) s
-
--- after the calls ks, of which the last stands first
-abbrev pub after : Stack → List Call → Stack
-after s [] = s
-after s (k ∷ ks) = next (after s ks) k
 
 -- how many words are held
 abbrev pub depth : Stack → ℕ
 depth s = length (s .held)
+
+-- ---- from the calls, their answers and their places, of which the last stands first
+
+-- how many words are held: the pushes less the pops, of those that were not refused
+abbrev pub counted : Call → ℤ → ℕ → ℕ
+counted (pushing x) (pos a) n = suc n
+counted (pushing x) (negsuc a) n = n
+counted popping (pos a) n = n - 1
+counted popping (negsuc a) n = n
+
+abbrev pub count : List (Step Call) → ℕ
+count [] = 0
+count (t ∷ ts) = counted (t .call) (t .answer) (count ts)
+
+-- x was pushed onto d others, and more than d words have been held ever since
+pub data Lies (x d : ℕ) : List (Step Call) → Type 0 where
+  pushed : {t : Step Call} {ts : List (Step Call)} → t .call ≡ pushing x → t .answer ≡ ok → count ts ≡ d → Lies x d (t ∷ ts)
+  stayed : {t : Step Call} {ts : List (Step Call)} → Lies x d ts → d < count (t ∷ ts) → Lies x d (t ∷ ts)
+
+-- what a call is told on a stack of c words, after the steps ts; o is its place after it
+abbrev pub Told : ℕ → Call → ℤ → List ℕ → List (Step Call) → Type 0
+Told c (pushing x) a o ts = a ≡ cond (ltb (count ts) c) ok enomem
+-- a pop that is not refused hands out the last word that was pushed and has not been popped
+Told c popping a o ts = (a ≡ cond (ltb 0 (count ts)) ok ebusy) × (a ≡ ok → Lies (getD o 0 0) (count ts - 1) ts)
+
+abbrev pub AllTold : ℕ → List (Step Call) → Type 0
+AllTold c [] = Unit {0}
+AllTold c (t ∷ ts) = Told c (t .call) (t .answer) (t .out) ts × AllTold c ts
 
 -- x stands on d others in l, where the last in is first
 pub record Stands (x d : ℕ) (l : List ℕ) : Type 0 where
@@ -37,33 +67,24 @@ pub record Stands (x d : ℕ) (l : List ℕ) : Type 0 where
   pub is : l ≡ over ++ x ∷ below
   pub low : length below ≡ d
 
--- told from the calls alone, with the depths that they leave: x was pushed onto d others, and more than d words have been held ever since
-pub data Lies (s : Stack) (x d : ℕ) : List Call → Type 0 where
-  pushed : {ks : List Call} → depth (after s ks) ≡ d → d < after s ks .capacity → Lies s x d (pushing x ∷ ks)
-  stayed : {k : Call} {ks : List Call} → Lies s x d ks → d < depth (after s (k ∷ ks)) → Lies s x d (k ∷ ks)
-
--- after any calls on a stack s that is new
-pub record Promise (s : Stack) (ks : List Call) : Type 0 where
+-- after these steps a new stack of c words is s
+pub record Promise (c : ℕ) (ts : List (Step Call)) (s : Stack) : Type 0 where
+  -- each call was told what it should be, and each pop got the word that it should get; there is only one
+  pub told : AllTold c ts
+  pub one : (x y d : ℕ) → Lies x d ts → Lies y d ts → x ≡ y
   -- never more than it can hold, and each word of its memory is either held or spare
-  pub fixed : after s ks .capacity ≡ s .capacity
-  pub bounded : depth (after s ks) ≤ s .capacity
-  pub whole : depth (after s ks) + length (after s ks .spare) ≡ s .capacity
+  pub fixed : s .capacity ≡ c
+  pub counts : depth s ≡ count ts
+  pub bounded : count ts ≤ c
+  pub whole : depth s + length (s .spare) ≡ c
   -- what was pushed stays, where it was, until the stack is as low as before; and nothing else is held
-  pub stands : (x d : ℕ) → Lies s x d ks → Stands x d (after s ks .held)
-  pub lies : (x d : ℕ) → Stands x d (after s ks .held) → Lies s x d ks
-  -- a pop hands out the last word that was pushed and has not been popped
-  pub pops : (x d : ℕ) → Lies s x d ks → depth (after s ks) ≡ suc d → (answer (pop (after s ks)) ≡ ok) × (popped (after s ks) ≡ x ∷ [])
-  pub popped-lies : (x : ℕ) → popped (after s ks) ≡ x ∷ [] → Lies s x (depth (after s ks) - 1) ks
+  pub stands : (x d : ℕ) → Lies x d ts → Stands x d (s .held)
+  pub lies : (x d : ℕ) → Stands x d (s .held) → Lies x d ts
   -- a call that is answered below 0 changes nothing
-  pub refused : (k : Call) (c : ℕ) → answer (does k (after s ks)) ≡ negsuc c → after s (k ∷ ks) ≡ after s ks
+  pub refused : (k : Call) (n : ℕ) → answer (does k s) ≡ negsuc n → next s k ≡ s
 
--- the calls ks were made in memory that was h₀ and w₀; now it is h and w
-pub data Made (h₀ w₀ : List ℕ) : List Call → List ℕ → List ℕ → Type 0 where
-  begun : Made h₀ w₀ [] h₀ w₀
-  made : {k : Call} {ks : List Call} {h w h' w' : List ℕ} {r : ℤ} → Made h₀ w₀ ks h w → Did place (does k) h w r h' w' → Made h₀ w₀ (k ∷ ks) h' w'
-
--- then the memory holds the stack of which the promises speak, and the word that stands on d others is word d
-pub record Kept (h₀ w₀ : List ℕ) (ks : List Call) (h w : List ℕ) : Type 0 where
+-- the same of memory; and the word that lies on d others is word d
+pub record Kept (c : ℕ) (ts : List (Step Call)) (h w : List ℕ) : Type 0 where
   pub formed : place .formed h w ≡ true
-  pub is : place .object h w ≡ after (place .object h₀ w₀) ks
-  pub word : (x d : ℕ) → Stands x d (place .object h w .held) → getD w d 0 ≡ x
+  pub promise : Promise c ts (place .object h w)
+  pub word : (x d : ℕ) → Lies x d ts → getD w d 0 ≡ x
