@@ -11,7 +11,7 @@ use lib.Dec.{eqb}
 use lib.IntN.{ℤ, pos}
 use lib.ListN.{length, getD}
 use Rattle.seq.proofs.Bits.{bits-lt}
-use Rattle.thread.specs.Code.{einval}
+use Rattle.thread.specs.Code.{ok, einval}
 use Rattle.store.specs.Store.{Reply, accept, answer, Did, looks, Started}
 use Rattle.store.proofs.Laws.{became, answers, kept-bad, looks-is}
 use Rattle.event.specs.Event.{width, post, set, setMasked, clear, anyThere, allThere, told}
@@ -21,8 +21,16 @@ use Rattle.event.proofs.Words.{or-is, and-not-is, any-is, all-is, repla
 use Rattle.event.proofs.Lemmas.{post-monotonic}
 
 module _ (h : List ℕ) (r : ℤ) (h' : List ℕ) where
-  pub event-init : Started place true 0 h [] r h' [] → Init r (getD h' 0 0)
-  event-init s = record { inv = λ e. rw (s .made e .object) (omega arith); events = λ e. s .made e .object }
+  -- a header of a word: it is made
+  pub event-init : 1 ≤ length h → Started place true 0 h [] r h' [] → Init r (getD h' 0 0)
+  event-init k s =
+      let e : r ≡ ok = s .code ∙ rw (le-leb 1 (length h) k) in
+      let z : getD h' 0 0 ≡ 0 = s .made e .object in
+      record { done = e; inv = rw z (omega arith); events = z }
+
+  -- none: refused, and nothing changes
+  pub init-refuses : length h < 1 → Started place true 0 h [] r h' [] → (r ≡ einval) × (h' ≡ h)
+  init-refuses k s = let e : r ≡ einval = s .code ∙ rw (lt-leb 1 (length h) k) in (e, s .kept 21 e .0)
 
   -- what is too short for a word of flags is refused, and stays
   pub event-refuses : (f : ℕ → Reply ℕ) → length h < 1 → Did place f h [] r h' [] → (r ≡ einval) × (h' ≡ h)

@@ -19,12 +19,13 @@ Inv e = e < 4294967296
 abbrev pub complement : ℕ → ℕ
 complement x = 4294967295 - x
 
--- init
+-- init: it always succeeds
 pub record Init (r : ℤ) (e' : ℕ) : Type 0 where
+  pub done : r ≡ ok
   -- result.inv()
-  pub inv : r ≡ ok → Inv e'
+  pub inv : Inv e'
   -- result.events == 0u32
-  pub events : r ≡ ok → e' ≡ 0
+  pub events : e' ≡ 0
 
 -- post
 pub record Post (new e : ℕ) (r : ℤ) (e' : ℕ) : Type 0 where
