@@ -5,9 +5,10 @@ use mathlib.Core.List.{List, [], _∷_}
 use lib.IntN.{ℤ, pos}
 use Rattle.thread.specs.Code.{ok, enomem, einval}
 use Rattle.store.specs.Store.{Reply, refuse, accept, answer, reply}
+use Rattle.store.specs.History.{start, then}
 use Rattle.mem_slab.specs.Slab.{Slab, alloc, free, fresh}
 use Rattle.mem_slab.specs.Post.{slab, place, fit, led, Starts}
-use Rattle.mem_slab.specs.Blocks.{Call, allocCall, freeCall, meant, Calls, Run, start, then, held}
+use Rattle.mem_slab.specs.Blocks.{Call, allocCall, freeCall, meant, Calls, Runs, held}
 use Rattle.mem_slab.specs.History.{freeList}
 use Rattle.mem_slab.specs.HandOver.{Ask, allocates, releases, after}
 use Rattle.mem_slab.proofs.New.{starts}
@@ -49,7 +50,7 @@ gave = record { code = refl; after = record { formed = refl; object = refl; besi
 pub took : Calls (freeCall 0) (2 ∷ 16 ∷ 1 ∷ 1 ∷ 9 ∷ []) (0 ∷ 1 ∷ 9 ∷ []) ok (2 ∷ 16 ∷ 0 ∷ 0 ∷ 9 ∷ []) (2 ∷ 1 ∷ 9 ∷ [])
 took = record { code = refl; after = record { formed = refl; object = refl; beside = refl; rest = refl; long = (refl, refl) } }
 
-pub ran : Run (2 ∷ 16 ∷ 0 ∷ 0 ∷ 9 ∷ []) (2 ∷ 1 ∷ 9 ∷ []) (record { call = freeCall 0; answer = ok } ∷ record { call = allocCall; answer = pos 0 } ∷ []) (2 ∷ 16 ∷ 0 ∷ 0 ∷ 9 ∷ []) (2 ∷ 1 ∷ 9 ∷ [])
+pub ran : Runs (2 ∷ 16 ∷ 0 ∷ 0 ∷ 9 ∷ []) (2 ∷ 1 ∷ 9 ∷ []) (record { call = freeCall 0; answer = ok } ∷ record { call = allocCall; answer = pos 0 } ∷ []) (2 ∷ 16 ∷ 0 ∷ 0 ∷ 9 ∷ []) (2 ∷ 1 ∷ 9 ∷ [])
 ran = then (freeCall 0) ok (then allocCall (pos 0) start gave) took
 
 pub held-now : (held (record { call = allocCall; answer = pos 0 } ∷ []) 0 ≡ true) × (held (record { call = freeCall 0; answer = ok } ∷ record { call = allocCall; answer = pos 0 } ∷ []) 0 ≡ false)

@@ -1,152 +1,87 @@
 -- Any sequence of calls from init keeps what a slab promises. Assumes nothing.
-use mathlib.Core.Path.{_≡_, refl, sym, ap, subst, _∙_}
-use mathlib.Core.Bool.{Bool, true, false}
+use mathlib.Core.Path.{_≡_, refl, sym, ap, _∙_}
+use mathlib.Core.Bool.{Bool, true, false, cond, not, _&&_}
 use mathlib.Core.List.{List, [], _∷_}
-use Prim.Native.Nat.{ℕ, _-_, _<_}
+use Prim.Native.Nat.{ℕ, _<_}
 use native.Mathlib.Omega.{arith}
+use lib.Dec.{ltb}
 use lib.IntN.{ℤ}
 use lib.ListN.{getD, drop}
 use borrow.Author.Tests.{lt-ltb}
 use Rattle.seq.proofs.Order.{clash}
-use Rattle.thread.specs.Code.{ok, einval}
-use Rattle.store.specs.Store.{answer, Becomes, After}
+use Rattle.thread.specs.Code.{ok}
+use Rattle.store.specs.History.{Event, start, then}
 use Rattle.mem_slab.specs.Slab.{Slab, isOut}
-use Rattle.mem_slab.specs.Post.{slab, place, fit, Starts}
-use Rattle.mem_slab.specs.Blocks.{Call, allocCall, freeCall, Calls, Event, Run, start, then, changed, held}
-use Rattle.mem_slab.specs.History.{count, number, freeList, top, Promise, Always}
-use Rattle.mem_slab.proofs.Memory.{Fit, fit-is, is-sound, next-link}
-use Rattle.mem_slab.proofs.Outs.{alloc-cases, free-cases, outcome, out-changes}
+use Rattle.mem_slab.specs.Post.{slab, Starts}
+use Rattle.mem_slab.specs.Blocks.{Call, allocCall, freeCall, Calls, Runs, held}
+use Rattle.mem_slab.specs.History.{count, number, freeList, top, restocked, stock, AllTold, Promise, Always}
+use Rattle.mem_slab.proofs.Memory.{is-sound}
 use Rattle.mem_slab.proofs.Along.{number-ext}
-use Rattle.mem_slab.proofs.Stack.{Good, first-is, next-free, popped, good-alloc, some-used, pushed, good-free, good-new, none-out}
+use Rattle.mem_slab.proofs.Stack.{free-new}
+use Rattle.mem_slab.proofs.Keeping.{Kept, pops, pushes, step, kept-new}
 
-record Kept (z n : ℕ) (xs : List Event) (h l : List ℕ) : Type 0 where
-  formed : place .formed h l ≡ true
-  good : Good (slab h l)
-  blocks : getD h 0 0 ≡ n
-  size : getD h 1 0 ≡ z
-  out : (b : ℕ) → isOut (slab h l) b ≡ held xs b
+-- told from the calls
+record Listed (n : ℕ) (xs : List (Event Call)) (h l : List ℕ) : Type 0 where
+  told : AllTold n xs
+  list : freeList (slab h l) ≡ stock n xs
 
-module _ (h l : List ℕ) where
-  -- the slab's numbers, for laws over its parts
-  good-fit : place .formed h l ≡ true → Good (slab h l) → Fit h l
-  good-fit e g =
-      let s = is-sound h l e in
-      record {
-        sound = s;
-        free = λ u. rw (next-link h l s) at (next-free (getD h 0 0) (getD h 1 0) (getD h 2 0) (getD h 3 0) (slab h l .link) g u);
-        named = λ u. rw (next-link h l s) at (g .named (getD h 3 0));
-      }
+taken : (f : List ℕ) (r : ℤ) → r ≡ top f → restocked allocCall r f ≡ drop 1 f
+taken [] r e = rw e
+taken (b ∷ f) r e = rw e
 
-module _ (z n : ℕ) (xs : List Event) (h l : List ℕ) (k : Kept z n xs h l) where
-  unfit-not : {P : Type 0} → fit h l ≡ false → P
-  unfit-not e = clash (sym (fit-is h l (good-fit h l (k .formed) (k .good))) ∙ e)
+module _ (z n : ℕ) (xs : List (Event Call)) (h l : List ℕ) (k : Kept z n xs h l) where
+  -- what each call was told, and the stock
+  tells : (c : Call) (r : ℤ) (h' l' : List ℕ) → Calls c h l r h' l' → Listed n xs h l → Listed n (record { call = c; answer = r } ∷ xs) h' l'
+  tells allocCall r h' l' d y =
+      let p = pops z n xs h l k r h' l' d in
+      let e = p .code ∙ ap top (y .list) in
+      record { told = (e, y .told); list = p .left ∙ ap (drop 1) (y .list) ∙ sym (taken (stock n xs) r e) }
+  tells (freeCall b) r h' l' d y = go (held xs b) refl
+    where
+      go : (o : Bool) → held xs b ≡ o → Listed n (record { call = freeCall b; answer = r } ∷ xs) h' l'
+      go true e =
+          let p = pushes z n xs h l k r h' l' b d .done (k .out b ∙ e) in
+          record { told = (p .0 ∙ rw e, y .told); list = p .1 ∙ ap (λ (f : List ℕ). b ∷ f) (y .list) ∙ sym (ap (λ (a : ℤ). restocked (freeCall b) a (stock n xs)) (p .0)) }
+      go false e =
+          let p = pushes z n xs h l k r h' l' b d .refused (k .out b ∙ e) in
+          record { told = (p .0 ∙ rw e, y .told); list = p .1 ∙ y .list ∙ sym (ap (λ (a : ℤ). restocked (freeCall b) a (stock n xs)) (p .0)) }
 
-  module _ (r : ℤ) (h' l' : List ℕ) where
-    abbrev Next : Call → Type 0
-    Next c = Kept z n (record { call = c; answer = r } ∷ xs) h' l'
+  module _ (y : Listed n xs h l) where
+    once : (b : ℕ) → count b (stock n xs) ≡ cond (ltb b n && not (held xs b)) 1 0
+    once b = ap (count b) (sym (y .list)) ∙ k .good .once b ∙ (λ i. cond (ltb b (k .blocks i) && not (k .out b i)) 1 0)
 
-    outs : (c : Call) → Calls c h l r h' l' → (b : ℕ) → isOut (slab h' l') b ≡ held (record { call = c; answer = r } ∷ xs) b
-    outs c d b = out-changes c r b h l h' l' (outcome c h l r h' l' d) ∙ ap (changed c r b) (k .out b)
+    all-held : stock n xs ≡ [] → (b : ℕ) → b < n → held xs b ≡ true
+    all-held e b i = go (held xs b) refl
+      where
+        go : (o : Bool) → held xs b ≡ o → held xs b ≡ true
+        go true o = o
+        go false o = absurd (let v : _≡_ {A = ℕ} 0 1 = sym (ap (count b) e) ∙ once b ∙ rw (o, lt-ltb b n i) in omega arith)
 
-    stays : (c : Call) → Calls c h l r h' l' → (h' ≡ h) × (l' ≡ l) → Next c
-    stays c d e = record { formed = rw (e .0, e .1) (k .formed); good = rw (e .0, e .1) (k .good); blocks = rw (e .0) (k .blocks); size = rw (e .0) (k .size); out = outs c d }
-
-    becomes : (c : Call) → Calls c h l r h' l' → {s : Slab} → Becomes place s h l h' l' → Good s → s .blocks ≡ getD h 0 0 → s .size ≡ getD h 1 0 → Next c
-    becomes c d m g e f =
+    promise : Promise z n xs h l
+    promise =
         record {
-          formed = m .formed;
-          good = subst Good (sym (m .object)) g;
-          blocks = ap (λ (s : Slab). s .blocks) (m .object) ∙ e ∙ k .blocks;
-          size = ap (λ (s : Slab). s .size) (m .object) ∙ f ∙ k .size;
-          out = outs c d;
+          blocks = k .blocks;
+          size = k .size;
+          told = y .told;
+          list = y .list;
+          once = once;
+          out = k .out;
+          used = k .good .used ∙ number-ext (isOut (slab h l)) (held xs) (getD h 0 0) (k .out) ∙ ap (number (held xs)) (k .blocks);
+          all-held = all-held;
+          some-free = λ b i f e. clash (sym (all-held e b i) ∙ f);
         }
 
-    record Popped : Type 0 where
-      next : Next allocCall
-      code : r ≡ top (freeList (slab h l))
-      left : freeList (slab h' l') ≡ drop 1 (freeList (slab h l))
-
-    pops : Calls allocCall h l r h' l' → Popped
-    pops d =
-        alloc-cases h l (λ y. (r ≡ answer y) × After place y h l h' l' → Popped) (λ e. unfit-not e)
-        (λ f u a.
-        let e : getD h 0 0 - getD h 2 0 ≡ 0 = omega arith in
-        record { next = stays allocCall d (a .1); code = a .0 ∙ rw e; left = rw (a .1 .0, a .1 .1, e) })
-        (λ f u a.
-        let t = first-is (getD h 0 0) (getD h 1 0) (getD h 2 0) (getD h 3 0) (slab h l .link) u in
-        record {
-          next = becomes allocCall d (a .1) (good-alloc (getD h 0 0) (getD h 1 0) (getD h 2 0) (getD h 3 0) (slab h l .link) (k .good) u) refl refl;
-          code = a .0 ∙ sym (ap top t);
-          left = ap freeList (a .1 .object) ∙ popped (getD h 0 0) (getD h 1 0) (getD h 2 0) (getD h 3 0) (slab h l .link) (k .good) u ∙ sym (ap (drop 1) t);
-        })
-        (d .code, d .after)
-
-    record Pushed (b : ℕ) : Type 0 where
-      next : Next (freeCall b)
-      done : isOut (slab h l) b ≡ true → (r ≡ ok) × (freeList (slab h' l') ≡ b ∷ freeList (slab h l))
-      refused : isOut (slab h l) b ≡ false → r ≡ einval
-
-    pushes : (b : ℕ) → Calls (freeCall b) h l r h' l' → Pushed b
-    pushes b d =
-        free-cases b h l (λ y. (r ≡ answer y) × After place y h l h' l' → Pushed b) (λ e. unfit-not e)
-        (λ f o a. record { next = stays (freeCall b) d (a .1); done = λ q. clash (sym q ∙ o); refused = λ q. a .0 })
-        (λ f o e a. absurd (omega (arith, some-used (getD h 0 0) (getD h 1 0) (getD h 2 0) (getD h 3 0) (slab h l .link) (k .good) b o)))
-        (λ f o e a.
-        record {
-          next = becomes (freeCall b) d (a .1) (good-free (getD h 0 0) (getD h 1 0) (getD h 2 0) (getD h 3 0) (slab h l .link) (k .good) b o) refl refl;
-          done = λ q. (a .0, ap freeList (a .1 .object) ∙ pushed (getD h 0 0) (getD h 1 0) (getD h 2 0) (getD h 3 0) (slab h l .link) (k .good) b o);
-          refused = λ q. clash (sym o ∙ q);
-        })
-        (d .code, d .after)
-
-  step : (c : Call) (r : ℤ) (h' l' : List ℕ) → Calls c h l r h' l' → Kept z n (record { call = c; answer = r } ∷ xs) h' l'
-  step allocCall r h' l' d = pops r h' l' d .next
-  step (freeCall b) r h' l' d = pushes r h' l' b d .next
-
-  -- what is held, and what is free
-  all-held : freeList (slab h l) ≡ [] → (b : ℕ) → b < n → held xs b ≡ true
-  all-held e b i = sym (k .out b) ∙ go (isOut (slab h l) b) refl
-    where
-      go : (o : Bool) → isOut (slab h l) b ≡ o → isOut (slab h l) b ≡ true
-      go true o = o
-      go false o =
-          let y : _≡_ {A = ℕ} 0 1 = sym (ap (count b) e) ∙ k .good .once b ∙ rw (o, lt-ltb b (getD h 0 0) (omega (arith, k .blocks))) refl in
-          absurd (omega arith)
-
-  some-free : (b : ℕ) → b < n → held xs b ≡ false → freeList (slab h l) ≡ [] → ⊥
-  some-free b i f e = clash (sym (all-held e b i) ∙ f)
-
-  promise : Promise z n xs h l
-  promise =
-      record {
-        blocks = k .blocks;
-        size = k .size;
-        out = k .out;
-        used = k .good .used ∙ number-ext (isOut (slab h l)) (held xs) (getD h 0 0) (k .out) ∙ ap (number (held xs)) (k .blocks);
-        once = k .good .once;
-        alloc = λ r h' l' d. (pops r h' l' d .code, pops r h' l' d .left);
-        all-held = all-held;
-        some-free = some-free;
-        free = λ b r h' l' d q. pushes r h' l' b d .done (k .out b ∙ q);
-        not-held = λ b r h' l' d q. pushes r h' l' b d .refused (k .out b ∙ q);
-      }
-
 module _ (z n : ℕ) (h l h₀ l₀ : List ℕ) (s : Starts z n h l ok h₀ l₀) where
-  kept-new : Kept z n [] h₀ l₀
-  kept-new =
+  listed-new : Listed n [] h₀ l₀
+  listed-new =
       let m = s .made refl in
-      let b : 0 < n = omega (arith, is-sound h₀ l₀ (m .formed) .blocks, ap (λ (x : Slab). x .blocks) (m .object)) in
-      record {
-        formed = m .formed;
-        good = subst Good (sym (m .object)) (good-new z n b);
-        blocks = ap (λ (x : Slab). x .blocks) (m .object);
-        size = ap (λ (x : Slab). x .size) (m .object);
-        out = λ i. ap (λ (x : Slab). isOut x i) (m .object) ∙ none-out z n b i;
-      }
+      record { told = tt; list = ap freeList (m .object) ∙ free-new z n (omega (arith, is-sound h₀ l₀ (m .formed) .blocks, ap (λ (x : Slab). x .blocks) (m .object))) }
 
-  kept : (xs : List Event) (h' l' : List ℕ) → Run h₀ l₀ xs h' l' → Kept z n xs h' l'
-  kept [] h' l' start = kept-new
-  kept (x ∷ xs) h' l' (then {h = a} {l = b} c r u d) = step z n xs a b (kept xs a b u) c r h' l' d
+  kept : (xs : List (Event Call)) (h' l' : List ℕ) → Runs h₀ l₀ xs h' l' → Kept z n xs h' l' × Listed n xs h' l'
+  kept [] h' l' start = (kept-new z n h l h₀ l₀ s, listed-new)
+  kept (x ∷ xs) h' l' (then {h = a} {b = b} c r u d) =
+      let p = kept xs a b u in
+      (step z n xs a b (p .0) c r h' l' d, tells z n xs a b (p .0) c r h' l' d (p .1))
 
 pub slab-history : (z n : ℕ) → Always z n
-slab-history z n h l h₀ l₀ s xs h' l' u = promise z n xs h' l' (kept z n h l h₀ l₀ s xs h' l' u)
+slab-history z n h l h₀ l₀ s xs h' l' u = let p = kept z n h l h₀ l₀ s xs h' l' u in promise z n xs h' l' (p .0) (p .1)

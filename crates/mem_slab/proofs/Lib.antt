@@ -4,6 +4,7 @@ pub mod New
 pub mod Outs
 pub mod Along
 pub mod Stack
+pub mod Keeping
 pub mod Histories
 pub mod HandOver
 pub mod Upstream

@@ -12,9 +12,10 @@ use borrow.Author.Tests.{lt-ltb, ltb-true, ltb-false, ne-eqb, eqb-true, eqb-fals
 use Rattle.seq.proofs.Order.{clash}
 use Rattle.thread.specs.Code.{ok, enomem, einval}
 use Rattle.store.specs.Store.{Reply, refuse, accept, answer, Place, reply, After, Becomes, Did}
+use Rattle.store.specs.History.{Event, start, then}
 use Rattle.mem_slab.specs.Slab.{Slab, isOut, alloc, free, given, returned}
 use Rattle.mem_slab.specs.Post.{slab, place, fit, led}
-use Rattle.mem_slab.specs.Blocks.{Call, allocCall, freeCall, Calls, Event, Run, start, then, changed, held, out, Given, Returned, Outcome, NoTwo}
+use Rattle.mem_slab.specs.Blocks.{Call, allocCall, freeCall, Calls, Runs, changed, held, out, Given, Returned, Outcome, NoTwo}
 use Rattle.mem_slab.proofs.Memory.{both, refuted, reply-fit, reply-unfit, Fit, is-fit, next-link}
 
 -- a link is written
@@ -128,9 +129,9 @@ changed-too (freeCall i) (negsuc n) b v w f e = f e
 
 module _ (h₀ l₀ : List ℕ) where
   -- a block that is held is out
-  pub held-out : (xs : List Event) (h l : List ℕ) (b : ℕ) → Run h₀ l₀ xs h l → held xs b ≡ true → out h l b ≡ true
+  pub held-out : (xs : List (Event Call)) (h l : List ℕ) (b : ℕ) → Runs h₀ l₀ xs h l → held xs b ≡ true → out h l b ≡ true
   held-out [] h l b start e = clash (sym e)
-  held-out (x ∷ xs) h' l' b (then {h = h} {l = l} k r u d) e =
+  held-out (x ∷ xs) h' l' b (then {h = h} {b = l} k r u d) e =
       out-changes k r b h l h' l' (outcome k h l r h' l' d) ∙ changed-too k r b (held xs b) (out h l b) (held-out xs h l b u) e
 
   pub no-two : NoTwo h₀ l₀

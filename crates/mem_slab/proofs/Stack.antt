@@ -183,14 +183,17 @@ module _ (z n : ℕ) (some-blocks : 0 < n) where
       go true t = rw (none-out b, t) (count-up b 0 n (omega arith) (omega (arith, ltb-true b n t)))
       go false t = rw (none-out b, t) (count-above b 0 n (omega (arith, ltb-false b n t)))
 
+  -- all are free, by their numbers
+  pub free-new : freeList (fresh z n) ≡ upFrom 0 n
+  free-new = let y : n - 0 ≡ n = omega arith in rw y (along-up links n 0 n (omega arith) link-up)
+
   pub good-new : Good (fresh z n)
   good-new =
-      let y : n - 0 ≡ n = omega arith in
       record {
         few = omega arith;
         inside = some-blocks;
         links = omega (arith, length-new n some-blocks);
         named = named-new;
-        once = λ b. rw y (ap (count b) (along-up links n 0 n (omega arith) link-up) ∙ once-new b);
+        once = λ b. ap (count b) free-new ∙ once-new b;
         used = sym (number-none (isOut (fresh z n)) n none-out);
       }

@@ -4,12 +4,13 @@ use mathlib.Core.Bool.{Bool, true, false, cond, not, _&&_}
 use mathlib.Core.List.{List, [], _∷_}
 use Prim.Native.Nat.{ℕ, zero, suc, _-_, _<_}
 use lib.Dec.{ltb, eqb}
-use lib.IntN.{ℤ, pos}
+use lib.IntN.{ℤ, pos, negsuc}
 use lib.ListN.{getD, drop}
 use Rattle.thread.specs.Code.{ok, enomem, einval}
-use Rattle.mem_slab.specs.Slab.{Slab, isOut}
+use Rattle.store.specs.History.{Event}
+use Rattle.mem_slab.specs.Slab.{Slab, isOut, upFrom}
 use Rattle.mem_slab.specs.Post.{slab, Starts}
-use Rattle.mem_slab.specs.Blocks.{Event, Calls, Run, allocCall, freeCall, held}
+use Rattle.mem_slab.specs.Blocks.{Call, allocCall, freeCall, Runs, held}
 
 -- how often x stands in l
 abbrev pub count : ℕ → List ℕ → ℕ
@@ -39,24 +40,45 @@ abbrev pub top : List ℕ → ℤ
 top [] = enomem
 top (b ∷ f) = pos b
 
+-- ---- from the calls and their answers
+
+-- the blocks that can be had, the next first: all, by their numbers; an alloc takes the first, a free puts its block in front
+abbrev pub restocked : Call → ℤ → List ℕ → List ℕ
+restocked allocCall (pos i) f = drop 1 f
+restocked allocCall (negsuc i) f = f
+restocked (freeCall b) (pos i) f = b ∷ f
+restocked (freeCall b) (negsuc i) f = f
+
+abbrev pub stock : ℕ → List (Event Call) → List ℕ
+stock n [] = upFrom 0 n
+stock n (x ∷ xs) = restocked (x .call) (x .answer) (stock n xs)
+
+-- what a call is told after the events xs: an alloc the first of the stock, or -12; a free 0 if the block is held, else -22
+abbrev pub Told : ℕ → Call → ℤ → List (Event Call) → Type 0
+Told n allocCall a xs = a ≡ top (stock n xs)
+Told n (freeCall b) a xs = a ≡ cond (held xs b) ok einval
+
+abbrev pub AllTold : ℕ → List (Event Call) → Type 0
+AllTold n [] = Unit {0}
+AllTold n (x ∷ xs) = Told n (x .call) (x .answer) xs × AllTold n xs
+
 -- n blocks of the size z, after the events xs, the last in front; h and l is the memory now
-pub record Promise (z n : ℕ) (xs : List Event) (h l : List ℕ) : Type 0 where
+pub record Promise (z n : ℕ) (xs : List (Event Call)) (h l : List ℕ) : Type 0 where
   pub blocks : getD h 0 0 ≡ n
   pub size : getD h 1 0 ≡ z
+  -- each call was told what it should be: last freed, first given
+  pub told : AllTold n xs
+  -- the free list is the stock. A block that nobody holds stands there once, and nothing else does
+  pub list : freeList (slab h l) ≡ stock n xs
+  pub once : (b : ℕ) → count b (stock n xs) ≡ cond (ltb b n && not (held xs b)) 1 0
   -- a block is out exactly if somebody holds it, and as many are out as are held
   pub out : (b : ℕ) → isOut (slab h l) b ≡ held xs b
   pub used : getD h 2 0 ≡ number (held xs) n
-  -- each free block stands once in the free list, and nothing else does
-  pub once : (b : ℕ) → count b (freeList (slab h l)) ≡ cond (isFree (slab h l) b) 1 0
-  -- alloc takes the first of the free list. It answers -12 if there is none, which is exactly if all blocks are held; it never answers -22
-  pub alloc : (r : ℤ) (h' l' : List ℕ) → Calls allocCall h l r h' l' → (r ≡ top (freeList (slab h l))) × (freeList (slab h' l') ≡ drop 1 (freeList (slab h l)))
-  pub all-held : freeList (slab h l) ≡ [] → (b : ℕ) → b < n → held xs b ≡ true
-  pub some-free : (b : ℕ) → b < n → held xs b ≡ false → freeList (slab h l) ≡ [] → ⊥
-  -- free puts a block that is held in front: last freed, first given. Any other number is refused
-  pub free : (b : ℕ) (r : ℤ) (h' l' : List ℕ) → Calls (freeCall b) h l r h' l' → held xs b ≡ true → (r ≡ ok) × (freeList (slab h' l') ≡ b ∷ freeList (slab h l))
-  pub not-held : (b : ℕ) (r : ℤ) (h' l' : List ℕ) → Calls (freeCall b) h l r h' l' → held xs b ≡ false → r ≡ einval
+  -- there is none exactly if all blocks are held
+  pub all-held : stock n xs ≡ [] → (b : ℕ) → b < n → held xs b ≡ true
+  pub some-free : (b : ℕ) → b < n → held xs b ≡ false → stock n xs ≡ [] → ⊥
 
 -- from any memory in which init made a slab, h₀ and l₀
 abbrev pub Always : ℕ → ℕ → Type 0
 Always z n =
-    (h l h₀ l₀ : List ℕ) → Starts z n h l ok h₀ l₀ → (xs : List Event) (h' l' : List ℕ) → Run h₀ l₀ xs h' l' → Promise z n xs h' l'
+    (h l h₀ l₀ : List ℕ) → Starts z n h l ok h₀ l₀ → (xs : List (Event Call)) (h' l' : List ℕ) → Runs h₀ l₀ xs h' l' → Promise z n xs h' l'
