@@ -41,7 +41,10 @@ module _ (z n : ℕ) (xs : List (Event Call)) (h l : List ℕ) (k : Kept z n xs 
       go : (o : Bool) → held xs b ≡ o → Listed n (record { call = freeCall b; answer = r } ∷ xs) h' l'
       go true e =
           let p = pushes z n xs h l k r h' l' b d .done (k .out b ∙ e) in
-          record { told = (p .0 ∙ rw e, y .told); list = p .1 ∙ ap (λ (f : List ℕ). b ∷ f) (y .list) ∙ sym (ap (λ (a : ℤ). restocked (freeCall b) a (stock n xs)) (p .0)) }
+          record {
+            told = (p .0 ∙ rw e, y .told);
+            list = p .1 ∙ ap (λ (f : List ℕ). b ∷ f) (y .list) ∙ sym (ap (λ (a : ℤ). restocked (freeCall b) a (stock n xs)) (p .0));
+          }
       go false e =
           let p = pushes z n xs h l k r h' l' b d .refused (k .out b ∙ e) in
           record { told = (p .0 ∙ rw e, y .told); list = p .1 ∙ y .list ∙ sym (ap (λ (a : ℤ). restocked (freeCall b) a (stock n xs)) (p .0)) }
@@ -75,7 +78,8 @@ module _ (z n : ℕ) (h l h₀ l₀ : List ℕ) (s : Starts z n h l ok h₀ l₀
   listed-new : Listed n [] h₀ l₀
   listed-new =
       let m = s .made refl in
-      record { told = tt; list = ap freeList (m .object) ∙ free-new z n (omega (arith, is-sound h₀ l₀ (m .formed) .blocks, ap (λ (x : Slab). x .blocks) (m .object))) }
+      let b : 0 < n = omega (arith, is-sound h₀ l₀ (m .formed) .blocks, ap (λ (x : Slab). x .blocks) (m .object)) in
+      record { told = tt; list = ap freeList (m .object) ∙ free-new z n b }
 
   kept : (xs : List (Event Call)) (h' l' : List ℕ) → Runs h₀ l₀ xs h' l' → Kept z n xs h' l' × Listed n xs h' l'
   kept [] h' l' start = (kept-new z n h l h₀ l₀ s, listed-new)

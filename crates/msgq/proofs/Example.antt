@@ -86,10 +86,11 @@ with es = ends (record { queue = new 1 2 (0 ∷ 0 ∷ []); readers = 0; writers 
 -- a reader waits, and 1 is handed to it; 2 and 3 are stored, 4 and 5 wait for room, 6 would not wait; a get lets 4 in
 abbrev events : List Event
 events =
-    event (getting 1) false ∷ event (putting (m 1)) false ∷ event (putting (m 2)) true ∷ event (putting (m 3)) true ∷ event (putting (m 4)) false ∷ event (putting (m 5)) false
-    ∷ event (putting (m 6)) true ∷ event (getting 1) true ∷ []
+    event (getting 1) false ∷ event (putting (m 1)) false ∷ event (putting (m 2)) true ∷ event (putting (m 3)) true ∷ event (putting (m 4)) false
+    ∷ event (putting (m 5)) false ∷ event (putting (m 6)) true ∷ event (getting 1) true ∷ []
 
-pub waited : (with (event (getting 1) false ∷ []) .readers ≡ 1) × (with (event (getting 1) false ∷ event (putting (m 1)) false ∷ []) .got ≡ m 1 ∷ []) × (with events .got ≡ m 1 ∷ m 2 ∷ [])
+pub waited : (with (event (getting 1) false ∷ []) .readers ≡ 1) × (with (event (getting 1) false ∷ event (putting (m 1)) false ∷ []) .got ≡ m 1 ∷ [])
+    × (with events .got ≡ m 1 ∷ m 2 ∷ [])
     × (with events .queue .ring .held ≡ m 3 ∷ m 4 ∷ []) × (with events .writers ≡ m 5 ∷ []) × (with events .line ≡ m 1 ∷ m 2 ∷ m 3 ∷ m 4 ∷ m 5 ∷ [])
 unfolding slots turn wrap
 waited = (refl, refl, refl, refl, refl, refl)

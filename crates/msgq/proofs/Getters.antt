@@ -61,11 +61,18 @@ module _ (c z : ℕ) (q : Msgq) (r : ℕ) (got line turned : List (List ℕ)) (n
             no-room = λ v. absurd (omega arith);
             line = line-read got (q .ring .held) [] line f (p .line);
           }))
-      go false true y w = refused c z (s []) p (getting n) k (d ∙ get-refuses (readIdx q) (used q) (max q) false k right (omega (arith, ltb-false 0 (used q) y)) w)
+      go false true y w =
+          refused c z (s []) p (getting n) k (d ∙ get-refuses (readIdx q) (used q) (max q) false k right (omega (arith, ltb-false 0 (used q) y)) w)
       go false false y w =
           let o : used q ≡ 0 = omega (arith, ltb-false 0 (used q) y) in
           carried c z (s []) p (getting n) k (d ∙ get-pends (readIdx q) (used q) (max q) false k right o w)
-          (record { good = p .good; sizes = tt; no-message = λ v. none-held (q .ring .held) o; no-room = λ v. absurd (omega arith); line = line-stays got _ _ (p .line) })
+          (record {
+            good = p .good;
+            sizes = tt;
+            no-message = λ v. none-held (q .ring .held) o;
+            no-room = λ v. absurd (omega arith);
+            line = line-stays got _ _ (p .line);
+          })
 
   -- the writer with m waits first
   get-refill : (m : List ℕ) (w : List (List ℕ)) (p : Fair c z (s (m ∷ w))) → Decided (m ∷ w) → After c z (s (m ∷ w)) p (getting n) k
@@ -74,9 +81,11 @@ module _ (c z : ℕ) (q : Msgq) (r : ℕ) (got line turned : List (List ℕ)) (n
       let f : 0 < used q = omega (arith, p .good .read) in
       let g = good-leave c z q (p .good) 1 f in
       let b : used (having (leave 1 (q .ring)) q) < c = omega (arith, length-drop 1 (q .ring .held)) in
-      let x : stored m (read q) ≡ having (append (m ∷ []) (leave 1 (q .ring))) q = ap (stored m) (reads c z q (p .good) f) ∙ stores c z (having (leave 1 (q .ring)) q) g m (p .sizes .0) b in
+      let x : stored m (read q) ≡ having (append (m ∷ []) (leave 1 (q .ring))) q =
+      ap (stored m) (reads c z q (p .good) f) ∙ stores c z (having (leave 1 (q .ring)) q) g m (p .sizes .0) b in
       carried c z (s (m ∷ w)) p (getting n) k
-      (d ∙ get-wakes (readIdx q) (used q) (max q) true k (get-sane c z q (p .good) true (λ y. o)) (wrap (readIdx q + 1) (max q)) (λ v. absurd (omega arith)) refl refl)
+      (d
+      ∙ get-wakes (readIdx q) (used q) (max q) true k (get-sane c z q (p .good) true (λ y. o)) (wrap (readIdx q + 1) (max q)) (λ v. absurd (omega arith)) refl refl)
       (rw (x, gave (p .good .size))
       (record {
         good = good-put c z (having (leave 1 (q .ring)) q) g m b (p .sizes .0);

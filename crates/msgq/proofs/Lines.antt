@@ -33,7 +33,8 @@ line-ahead g l n m e = append-snoc g m l ∙ line-front g l n m e
 -- dropped, and so is what the writers offer
 pub line-drop : (g l w n : List (List ℕ)) → g ++ (l ++ w) ≡ n → g ++ (drop (length l) l ++ []) ≡ take (length g) n
 line-drop g l w n e =
-    ap (λ (x : List (List ℕ)). g ++ x) (append-nil (drop (length l) l) ∙ drop-length l) ∙ append-nil g ∙ sym (take-append-seam g (l ++ w)) ∙ ap (take (length g)) e
+    ap (λ (x : List (List ℕ)). g ++ x) (append-nil (drop (length l) l) ∙ drop-length l) ∙ append-nil g
+    ∙ sym (take-append-seam g (l ++ w)) ∙ ap (take (length g)) e
 
 -- handed to a reader, past nothing
 pub line-hand : (g l n : List (List ℕ)) (m : List ℕ) → length l ≡ 0 → g ++ l ≡ n → (g ++ m ∷ []) ++ l ≡ n ++ m ∷ []

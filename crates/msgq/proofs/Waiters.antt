@@ -36,6 +36,13 @@ module _ (c z : ℕ) (s : Waited) (p : Fair c z s) where
   abbrev q : Msgq
   q = s .queue
 
+  -- what is asked
+  abbrev asked : Bool → Bool → Reply Numbers
+  asked r k = putDecision (writeIdx q) (used q) (max q) r k
+
+  abbrev asked-front : Bool → Reply Numbers
+  asked-front r = cond r (asked true true) (putFrontDecision (readIdx q) (used q) (max q))
+
   -- after the call k
   abbrev pub After : Call → Bool → Type 0
   After k b = Fair c z (told k (answer (decision k b s)) s)
@@ -48,7 +55,8 @@ module _ (c z : ℕ) (s : Waited) (p : Fair c z s) where
   refused k b d = subst (λ (y : Reply Numbers). Fair c z (told k (answer y) s)) (sym d) p
 
   -- a message, or a place, of n bytes: refused, or of the queue's size
-  pub by-size : (k : Call) (b : Bool) (n : ℕ) (y : Reply Numbers) → decision k b s ≡ given (eqb n (q .size)) y → (n ≡ z → decision k b s ≡ y → After k b) → After k b
+  pub by-size : (k : Call) (b : Bool) (n : ℕ) (y : Reply Numbers) → decision k b s ≡ given (eqb n (q .size)) y
+      → (n ≡ z → decision k b s ≡ y → After k b) → After k b
   by-size k b n y d f = go (eqb n (q .size)) refl
     where
       go : (t : Bool) → eqb n (q .size) ≡ t → After k b
@@ -70,7 +78,7 @@ module _ (c z : ℕ) (s : Waited) (p : Fair c z s) where
   filled y = omega (arith, ltb-false (used q) (max q) y, p .good .slots, p .good .max)
 
   -- a put behind the others
-  pub put-fair : (m : List ℕ) (k : Bool) → length m ≡ z → decision (putting m) k s ≡ putDecision (writeIdx q) (used q) (max q) (ltb 0 (s .readers)) k → After (putting m) k
+  pub put-fair : (m : List ℕ) (k : Bool) → length m ≡ z → decision (putting m) k s ≡ asked (ltb 0 (s .readers)) k → After (putting m) k
   put-fair m k e d = go (ltb 0 (s .readers)) (ltb (used q) (max q)) k refl refl refl
     where
       right : sane (writeIdx q) (used q) (max q) (ltb 0 (s .readers)) 0 ≡ true
@@ -81,7 +89,8 @@ module _ (c z : ℕ) (s : Waited) (p : Fair c z s) where
           let f = ltb-true 0 (s .readers) x in
           let n = no-held f in
           let l : length (q .ring .held ++ s .writers) ≡ 0 = length-append (q .ring .held) (s .writers) ∙ omega (arith, n, nobody (omega (arith, p .good .read))) in
-          carried (putting m) k (d ∙ put-wakes (writeIdx q) (used q) (max q) (ltb 0 (s .readers)) k right (λ v. absurd (omega (arith, p .good .read, p .good .max))) x)
+          carried (putting m) k
+          (d ∙ put-wakes (writeIdx q) (used q) (max q) (ltb 0 (s .readers)) k right (λ v. absurd (omega (arith, p .good .read, p .good .max))) x)
           (record {
             good = p .good;
             sizes = p .sizes;
@@ -93,8 +102,10 @@ module _ (c z : ℕ) (s : Waited) (p : Fair c z s) where
           let f = ltb-true (used q) (max q) y in
           let h = ltb-false 0 (s .readers) x in
           let n = nobody (omega (arith, p .good .max)) in
-          carried (putting m) k (d ∙ put-stores (writeIdx q) (used q) (max q) (ltb 0 (s .readers)) k right (wrap (writeIdx q + 1) (max q)) (λ v. absurd (omega arith)) x refl)
-          (subst (λ (t : Msgq). Fair c z (becomes (putting m) s t (s .readers) (s .writers) [])) (sym (stores c z q (p .good) m e (omega (arith, p .good .max))))
+          carried (putting m) k
+          (d ∙ put-stores (writeIdx q) (used q) (max q) (ltb 0 (s .readers)) k right (wrap (writeIdx q + 1) (max q)) (λ v. absurd (omega arith)) x refl)
+          (subst (λ (t : Msgq). Fair c z (becomes (putting m) s t (s .readers) (s .writers) []))
+          (sym (stores c z q (p .good) m e (omega (arith, p .good .max))))
           (record {
             good = good-put c z q (p .good) m (omega (arith, p .good .max)) e;
             sizes = p .sizes;
@@ -115,21 +126,19 @@ module _ (c z : ℕ) (s : Waited) (p : Fair c z s) where
           })
 
   -- a put at the front
-  pub front-fair : (m : List ℕ) (k : Bool) → length m ≡ z
-      → decision (puttingFront m) k s ≡ cond (ltb 0 (s .readers)) (putDecision (writeIdx q) (used q) (max q) true true) (putFrontDecision (readIdx q) (used q) (max q))
-      → After (puttingFront m) k
+  pub front-fair : (m : List ℕ) (k : Bool) → length m ≡ z → decision (puttingFront m) k s ≡ asked-front (ltb 0 (s .readers)) → After (puttingFront m) k
   front-fair m k e d = go (ltb 0 (s .readers)) (ltb (used q) (max q)) refl refl
     where
-      pick : {r : Bool} → ltb 0 (s .readers) ≡ r
-          → decision (puttingFront m) k s ≡ cond r (putDecision (writeIdx q) (used q) (max q) true true) (putFrontDecision (readIdx q) (used q) (max q))
-      pick x = d ∙ ap (λ (r : Bool). cond r (putDecision (writeIdx q) (used q) (max q) true true) (putFrontDecision (readIdx q) (used q) (max q))) x
+      pick : {r : Bool} → ltb 0 (s .readers) ≡ r → decision (puttingFront m) k s ≡ asked-front r
+      pick x = d ∙ ap asked-front x
 
       go : (r u : Bool) → ltb 0 (s .readers) ≡ r → ltb (used q) (max q) ≡ u → After (puttingFront m) k
       go true u x y =
           let f = ltb-true 0 (s .readers) x in
           let n = no-held f in
           carried (puttingFront m) k
-          (pick x ∙ put-wakes (writeIdx q) (used q) (max q) true true (put-sane c z q (p .good) true (λ v. n)) (λ v. absurd (omega (arith, p .good .read, p .good .max))) refl)
+          (pick x
+          ∙ put-wakes (writeIdx q) (used q) (max q) true true (put-sane c z q (p .good) true (λ v. n)) (λ v. absurd (omega (arith, p .good .read, p .good .max))) refl)
           (record {
             good = p .good;
             sizes = p .sizes;
@@ -143,7 +152,8 @@ module _ (c z : ℕ) (s : Waited) (p : Fair c z s) where
           let n = nobody (omega (arith, p .good .max)) in
           let l : led m q ≡ having (lead m (q .ring)) q = ap (λ (y : Reply Msgq). left y q) (front-yes c z q (p .good) m e (omega (arith, p .good .max))) in
           carried (puttingFront m) k
-          (pick x ∙ lead-stores (readIdx q) (used q) (max q) (wrap (readIdx q + (max q - 1)) (max q)) (read-within c z q (p .good)) (λ v. absurd (omega arith)) refl)
+          (pick x
+          ∙ lead-stores (readIdx q) (used q) (max q) (wrap (readIdx q + (max q - 1)) (max q)) (read-within c z q (p .good)) (λ v. absurd (omega arith)) refl)
           (subst (λ (t : Msgq). Fair c z (becomes (puttingFront m) s t (s .readers) (s .writers) [])) (sym l)
           (record {
             good = good-front c z q (p .good) m (omega (arith, p .good .max)) e;

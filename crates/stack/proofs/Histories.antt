@@ -37,7 +37,8 @@ tells {c} {ts} (takes {l = l} {y = y}) h o o' f =
 tells {c} {ts} nothing h o o' f = (rw (le-ltb 0 (count ts) (omega (arith, h .counts))), λ a. absurd (let y : _≡_ {A = ℕ} 0 1 = cc in omega arith))
 
 holds-next : {c : ℕ} {ts : List (Step Call)} {l p : List ℕ} {k : Call} {y : Reply Stack} → Does c l p k y → Holds c ts l p
-    → (o o' : List ℕ) → Filled (gives k (mk c l p)) o o' → Holds c (record { call = k; answer = answer y; out = o' } ∷ ts) (left y (mk c l p) .held) (left y (mk c l p) .spare)
+    → (o o' : List ℕ) → Filled (gives k (mk c l p)) o o'
+    → Holds c (record { call = k; answer = answer y; out = o' } ∷ ts) (left y (mk c l p) .held) (left y (mk c l p) .spare)
 holds-next {c} {ts} {l} {p} {k} {y} d h o o' f =
     record {
       told = (tells d h o o' f, h .told);
@@ -78,7 +79,8 @@ module _ (c : ℕ) (w : List ℕ) (m : may c w ≡ true) where
       let d = which c (s .held) (s .spare) k in
       let e : mk c (s .held) (s .spare) ≡ s = ap (λ (n : ℕ). mk n (s .held) (s .spare)) (sym (h .0)) in
       let g : Filled (gives k (mk c (s .held) (s .spare))) o o' = subst (λ (v : Stack). Filled (gives k v) o o') (sym e) f in
-      subst (λ (v : Stack). (next v k .capacity ≡ c) × Holds c (record { call = k; answer = answer (does k v); out = o' } ∷ ts) (next v k .held) (next v k .spare)) e
+      subst
+      (λ (v : Stack). (next v k .capacity ≡ c) × Holds c (record { call = k; answer = answer (does k v); out = o' } ∷ ts) (next v k .held) (next v k .spare)) e
       (wholly d (h .1 .whole) .0, holds-next d (h .1) o o' g)
 
   pub promised : {ts : List (Step Call)} {s : Stack} → Ran does gives (stack.fresh c w) ts s → Promise c ts s

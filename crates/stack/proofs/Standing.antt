@@ -16,7 +16,8 @@ use Rattle.stack.proofs.Calls.{mk, Does, stores, no-room, takes, nothin
 pub stands-deep : {x d : ℕ} {l : List ℕ} → Stands x d l → d < length l
 stands-deep {x} {d} {l} s = omega (arith, simp length-append at (ap length (s .is)))
 
-pub keeps : {c x d : ℕ} {l p : List ℕ} {k : Call} {y : Reply Stack} → Does c l p k y → Stands x d l → d < depth (left y (mk c l p)) → Stands x d (left y (mk c l p) .held)
+pub keeps : {c x d : ℕ} {l p : List ℕ} {k : Call} {y : Reply Stack} → Does c l p k y → Stands x d l
+    → d < depth (left y (mk c l p)) → Stands x d (left y (mk c l p) .held)
 keeps (stores {x = y} b) s h = record { over = y ∷ s .over; below = s .below; is = ap (λ (l : List ℕ). y ∷ l) (s .is); low = s .low }
 keeps (no-room b) s h = s
 keeps {x = x} {d = d} (takes {l = l} {y = y}) s h = go (s .over) (s .below) (s .is) (s .low)
@@ -27,7 +28,8 @@ keeps {x = x} {d = d} (takes {l = l} {y = y}) s h = go (s .over) (s .below) (s .
 keeps nothing s h = s
 
 -- what is pushed stands on those that were held
-pub enters : {c x d : ℕ} {l p : List ℕ} {k : Call} {y : Reply Stack} → Does c l p k y → k ≡ pushing x → answer y ≡ ok → length l ≡ d → Stands x d (left y (mk c l p) .held)
+pub enters : {c x d : ℕ} {l p : List ℕ} {k : Call} {y : Reply Stack} → Does c l p k y
+    → k ≡ pushing x → answer y ≡ ok → length l ≡ d → Stands x d (left y (mk c l p) .held)
 enters (stores {l = l} b) e a f = record { over = []; below = l; is = cc; low = f }
 enters (no-room b) e a f = absurd (let y : _≡_ {A = ℕ} 0 1 = cc in omega arith)
 enters takes e a f = absurd (let y : _≡_ {A = ℕ} 0 1 = cc in omega arith)
