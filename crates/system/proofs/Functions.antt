@@ -34,10 +34,10 @@ use Rattle.futex.specs.Futex as futex
 use Rattle.futex.specs.Futex.{Futex, futex-kind}
 use Rattle.futex.specs.Post as word
 use Rattle.futex.specs.Post.{wakeCall, wakeOut, setOut}
-use Rattle.system.specs.Sum.{Member, _⊕_, mapped, onRight}
+use Rattle.system.specs.Sum.{nones, Member, _⊕_, mapped, onRight}
 use Rattle.system.specs.System.{State, running, number, vacant, Sys, create, reply, outcome, verdict, called, answers}
 use Rattle.system.specs.Rules.{Fine}
-use Rattle.system.specs.Rtos.{sems, mutexes, condvars, futexes, nones, rtos, aSem, aMutex, aCondvar, aFutex, semCall, mutexCall, condvarCall, futexCall}
+use Rattle.system.specs.Rtos.{sems, mutexes, condvars, futexes, rtos, aSem, aMutex, aCondvar, aFutex, semCall, mutexCall, condvarCall, futexCall}
 use Rattle.system.specs.Link.{wrapped, Is, HandsOut, Steps, Pairs, Turns}
 use Rattle.system.proofs.Calls.{runs, barred, called-fine}
 use Rattle.system.proofs.Rtos.{rtos-lawful}

@@ -1,6 +1,7 @@
 -- The members of the system have their data sheets. To add a kind is one line here. Assumes nothing.
 use Rattle.kind.specs.Kind.{Lawful}
-use Rattle.system.specs.Rtos.{nones, members, rtos}
+use Rattle.system.specs.Rtos.{members, rtos}
+use Rattle.system.specs.Sum.{nones}
 use Rattle.system.specs.Determined.{Determined}
 use Rattle.system.proofs.Sheets.{Sheet, _and_}
 use Rattle.system.proofs.SemSheet.{sem-sheet}

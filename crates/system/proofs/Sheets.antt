@@ -10,8 +10,8 @@ use Rattle.thread.specs.Code.{einval}
 use Rattle.kind.specs.Verdict.{keep, park, wake, Verdict, deny, allow}
 use Rattle.kind.specs.Kind.{Kind, Lawful}
 use Rattle.system.specs.System.{running, object, Sys, invoke, Kernel, step}
-use Rattle.system.specs.Part.{Part, whole}
-use Rattle.system.specs.Sum.{Member, _⊕_, mapped, onLeft, onRight, inLeft, inRight}
+use Rattle.system.specs.Part.{Part, whole, within}
+use Rattle.system.specs.Sum.{Member, _⊕_, mapped, onLeft, onRight, inLeft, inRight, Members, _&_, sum, Has, first, later, partOf}
 use Rattle.system.specs.Rules.{Fine}
 use Rattle.system.proofs.Sum.{sum-lawful}
 use Rattle.system.proofs.Bests.{InTurn, Turnwise}
@@ -66,6 +66,23 @@ module _ (A B : Member) {K : Kind} (P : Part ((A ⊕ B) .kind) K) (h : Fits P) w
         forms = λ n w. h .forms (inr n) w;
         blocks = λ n t x b. h .blocks (inr n) t x b;
       }
+
+pub within-fits : {A B K : Kind} (P : Part A B) (Q : Part B K) → Fits P → Fits Q → Fits (within P Q)
+within-fits {A} P Q g h =
+    record {
+      decides =
+          λ n v q w k.
+          h .decides (P .num n) v q w (P .call k) ∙ ap (mapped (Q .num) (Q .wish)) (g .decides n (λ t. Q .seen (v t)) q w k)
+          ∙ mapped-twice (P .num) (Q .num) (P .wish) (Q .wish) (A .decide n (λ t. P .seen (Q .seen (v t))) q w k);
+      forms = λ n w. h .forms (P .num n) w ∙ g .forms n w;
+      blocks = λ n t x b. g .blocks n t (Q .seen x) (h .blocks (P .num n) t x b);
+    }
+
+-- a kind of a system fits
+pub fits-of : {A : Member} {l : Members} (h : Has A l) → Fits (partOf h)
+fits-of {A} (first {l = l}) = left-fits A (sum l) (whole (sum (A & l) .kind)) (whole-fits (sum (A & l) .kind))
+fits-of (later {B = B} {l = l} h) =
+    within-fits (partOf h) (inRight B (sum l) (whole (sum (B & l) .kind))) (fits-of h) (right-fits B (sum l) (whole (sum (B & l) .kind)) (whole-fits (sum (B & l) .kind)))
 
 pub record Sheet (M : Member) : Type 1 where
   pub lawful : Lawful (M .kind)

@@ -2,12 +2,11 @@
 use mathlib.Core.Path.{_≡_, sym, subst}
 use mathlib.Core.List.{List}
 use Rattle.system.specs.System.{Sys, Op, Kernel, step, after}
-use Rattle.system.specs.Part.{whole}
-use Rattle.system.specs.Sum.{_⊕_}
+use Rattle.system.specs.Sum.{first, later}
 use Rattle.system.specs.Rules.{Fine, Start}
 use Rattle.system.specs.Run.{Run, run}
 use Rattle.system.specs.Laws.{Laws}
-use Rattle.system.specs.Rtos.{sems, mutexes, condvars, futexes, nones, members, rtos, semPart, mutexPart}
+use Rattle.system.specs.Rtos.{kinds, mutexes, members, rtos, semPart, mutexPart}
 use Rattle.system.specs.Theorems.{Theorems, Whole}
 use Rattle.system.proofs.Steps.{always}
 use Rattle.system.proofs.Orders.{ordered}
@@ -16,16 +15,9 @@ use Rattle.system.proofs.Lives.{refuses, silent, lives}
 use Rattle.system.proofs.Ledgers.{ledgers}
 use Rattle.system.proofs.SemTheorems.{semaphores}
 use Rattle.system.proofs.MutexTheorems as mutex
-use Rattle.system.proofs.Sheets.{Fits, whole-fits, left-fits, right-fits}
+use Rattle.system.proofs.Sheets.{fits-of}
 use Rattle.system.proofs.Determined.{same-state, same-next}
 use Rattle.system.proofs.Rtos.{sheets, rtos-lawful, determined}
-
-sem-fits : Fits semPart
-sem-fits = left-fits sems (mutexes ⊕ condvars ⊕ futexes ⊕ nones) (whole rtos) (whole-fits rtos)
-
-mutex-fits : Fits mutexPart
-mutex-fits =
-    left-fits mutexes (condvars ⊕ futexes ⊕ nones) _ (right-fits sems (mutexes ⊕ condvars ⊕ futexes ⊕ nones) (whole rtos) (whole-fits rtos))
 
 -- of our step
 module _ (s : Sys rtos) (b : Start s) (past : List (Op rtos)) where
@@ -46,8 +38,8 @@ module _ (s : Sys rtos) (b : Start s) (past : List (Op rtos)) where
         life = λ x t. lives rtos-lawful (after s past) fine t x;
         refuses = λ x c e. (refuses (after s past) x c e, silent (after s past) x c e);
         ledgers = ledgers rtos-lawful s b past;
-        semaphores = semaphores rtos-lawful semPart sem-fits s b past;
-        mutexes = mutex.mutexes rtos-lawful mutexPart mutex-fits s b past;
+        semaphores = semaphores rtos-lawful semPart (fits-of {l = kinds} first) s b past;
+        mutexes = mutex.mutexes rtos-lawful mutexPart (fits-of {l = kinds} (later first)) s b past;
       }
 
 -- of every kernel that keeps the laws: its runs are ours

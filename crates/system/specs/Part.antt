@@ -11,3 +11,7 @@ pub record Part (A K : Kind) : Type 0 where
 -- a system of one kind
 abbrev pub whole : (K : Kind) → Part K K
 whole K = record { num = λ n. n; call = λ k. k; wish = λ x. x; seen = λ x. x }
+
+-- a part of a part
+abbrev pub within : {A B K : Kind} → Part A B → Part B K → Part A K
+within P Q = record { num = λ n. Q .num (P .num n); call = λ k. Q .call (P .call k); wish = λ x. Q .wish (P .wish x); seen = λ x. P .seen (Q .seen x) }

@@ -9,16 +9,12 @@ use Rattle.condvar.specs.Condvar as condvar
 use Rattle.condvar.specs.Condvar.{condvar-kind}
 use Rattle.futex.specs.Futex as futex
 use Rattle.futex.specs.Futex.{Futex, futex-kind}
-use Rattle.system.specs.Part.{Part, whole}
-use Rattle.system.specs.Sum.{Member, _⊕_, inLeft, inRight}
+use Rattle.system.specs.Part.{Part}
+use Rattle.system.specs.Sum.{Member, Members, end, _&_, own, sum, first, later, partOf}
 use Rattle.system.specs.SemRules.{SemMakes, SemRules}
 use Rattle.system.specs.MutexRules.{MutexMakes, MutexRules}
 use Rattle.system.specs.CondvarRules.{CondvarRules}
 use Rattle.system.specs.FutexRules.{FutexMakes, FutexRules}
-
--- no call of the kind itself is for another
-abbrev pub own : {N C : Type 0} → N → C → Type 0
-own n k = ⊥
 
 abbrev pub sems : Member
 sems = record { kind = sem-kind; idle = tt; Makes = SemMakes; Rules = SemRules; Foreign = own }
@@ -32,32 +28,17 @@ condvars = record { kind = condvar-kind; idle = tt; Makes = λ n. Unit {0}; Rule
 abbrev pub futexes : Member
 futexes = record { kind = futex-kind; idle = tt; Makes = FutexMakes; Rules = FutexRules; Foreign = own }
 
--- the end of the sum: there is no such object
-abbrev pub none-kind : Kind
-none-kind =
-    record {
-      Num = ⊥;
-      Call = ⊥;
-      Wish = Unit {0};
-      formed = λ n w. absurd n;
-      decide = λ n v q w k. absurd n;
-      Blocked = λ n t x. absurd n;
-      Owes = λ k x r. absurd k;
-      new = λ n. absurd n;
-      books = λ n w k r l. absurd n;
-    }
-
-abbrev pub nones : Member
-nones = record { kind = none-kind; idle = tt; Makes = λ n. absurd n; Rules = λ P f s i o n. absurd n; Foreign = own }
-
 -- a further kind is one more line
-abbrev pub members : Member
-members =
+abbrev pub kinds : Members
+kinds =
     sems
-    ⊕ mutexes
-    ⊕ condvars
-    ⊕ futexes
-    ⊕ nones
+    & mutexes
+    & condvars
+    & futexes
+    & end
+
+abbrev pub members : Member
+members = sum kinds
 
 abbrev pub rtos : Kind
 rtos = members .kind
@@ -89,7 +70,13 @@ futexCall k = inr (inr (inr (inl k)))
 
 -- each kind as a part of the system
 abbrev pub semPart : Part sem-kind rtos
-semPart = inLeft sems (mutexes ⊕ condvars ⊕ futexes ⊕ nones) (whole rtos)
+semPart = partOf {l = kinds} first
 
 abbrev pub mutexPart : Part mutex-kind rtos
-mutexPart = inLeft mutexes (condvars ⊕ futexes ⊕ nones) (inRight sems (mutexes ⊕ condvars ⊕ futexes ⊕ nones) (whole rtos))
+mutexPart = partOf {l = kinds} (later first)
+
+abbrev pub condvarPart : Part condvar-kind rtos
+condvarPart = partOf {l = kinds} (later (later first))
+
+abbrev pub futexPart : Part futex-kind rtos
+futexPart = partOf {l = kinds} (later (later (later first)))

@@ -8,7 +8,7 @@ use Rattle.thread.specs.Code.{einval}
 use Rattle.kind.specs.Verdict.{keep, park, wake, Verdict, deny, allow}
 use Rattle.kind.specs.Kind.{Kind, Balance, balanced, impossible}
 use Rattle.system.specs.System.{Sys, Kernel}
-use Rattle.system.specs.Part.{Part}
+use Rattle.system.specs.Part.{Part, whole, within}
 
 -- a kind of object of the system
 pub record Member : Type 1 where
@@ -108,3 +108,45 @@ module _ (A B : Member) where
 infixr 40 _⊕_
 abbrev pub _⊕_ : Member → Member → Member
 A ⊕ B = record { kind = sumKind A B; idle = inl (A .idle); Makes = MakesSum A B; Rules = RulesSum A B; Foreign = ForeignSum A B }
+
+-- no call of a kind itself is for another
+abbrev pub own : {N C : Type 0} → N → C → Type 0
+own n k = ⊥
+
+-- the end of a sum: there is no such object
+abbrev pub none-kind : Kind
+none-kind =
+    record {
+      Num = ⊥;
+      Call = ⊥;
+      Wish = Unit {0};
+      formed = λ n w. absurd n;
+      decide = λ n v q w k. absurd n;
+      Blocked = λ n t x. absurd n;
+      Owes = λ k x r. absurd k;
+      new = λ n. absurd n;
+      books = λ n w k r l. absurd n;
+    }
+
+abbrev pub nones : Member
+nones = record { kind = none-kind; idle = tt; Makes = λ n. absurd n; Rules = λ P f s i o n. absurd n; Foreign = own }
+
+-- the kinds of a system, one after the other
+infixr 30 _&_
+pub data Members : Type 1 where
+  end : Members
+  _&_ : Member → Members → Members
+
+abbrev pub sum : Members → Member
+sum end = nones
+sum (A & l) = A ⊕ sum l
+
+-- where a kind stands among them
+pub data Has (A : Member) : Members → Type 1 where
+  first : {l : Members} → Has A (A & l)
+  later : {B : Member} {l : Members} → Has A l → Has A (B & l)
+
+-- so it is a part of the system
+abbrev pub partOf : {A : Member} {l : Members} → Has A l → Part (A .kind) (sum l .kind)
+partOf {A} (first {l = l}) = inLeft A (sum l) (whole (sum (A & l) .kind))
+partOf (later {B = B} {l = l} h) = within (partOf h) (inRight B (sum l) (whole (sum (B & l) .kind)))
