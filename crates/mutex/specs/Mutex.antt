@@ -101,11 +101,13 @@ Owed release r = r ≡ ok
 abbrev pub new : Mutex → Bool
 new m = cond (held (m .owner)) false (eqb (m .count) 0)
 
--- the books. Whose lock is answered 0 owns it: it was free, or its own, and has one lock more. Who waits for it found another's
+-- the books. Whose lock is answered 0 owns it: it was free, or its own, and has one lock more, up to 2^32 - 1. Who waits for it found another's
 abbrev pub lockedBy : Mutex → ℕ → ℤ → Balance Mutex
 lockedBy m w (pos r) =
     cond (held (m .owner))
-    (cond (owns w (m .owner)) (cond (eqb r 0) (balanced (counting (suc (m .count)) m)) impossible) (cond (eqb r 0) impossible (balanced m)))
+    (cond (owns w (m .owner))
+    (cond (eqb r 0) (cond (ltb (m .count) maxCount) (balanced (counting (suc (m .count)) m)) impossible) impossible)
+    (cond (eqb r 0) impossible (balanced m)))
     (cond (eqb r 0) (balanced (taken w)) impossible)
 lockedBy m w (negsuc r) = impossible
 

@@ -23,6 +23,7 @@ pub mod Callers
 pub mod SemTheorems
 pub mod MutexTheorems
 pub mod Rtos
+pub mod Limits
 pub mod Theorems
 pub mod MutexExample
 pub mod Woken

@@ -16,6 +16,7 @@ use Rattle.system.proofs.Ledgers.{ledgers}
 use Rattle.system.proofs.SemTheorems.{semaphores}
 use Rattle.system.proofs.MutexTheorems as mutex
 use Rattle.system.proofs.Sheets.{fits-of}
+use Rattle.system.proofs.Limits.{mutex-limit}
 use Rattle.system.proofs.Determined.{same-state, same-next}
 use Rattle.system.proofs.Rtos.{sheets, rtos-lawful, determined}
 
@@ -39,6 +40,7 @@ module _ (s : Sys rtos) (b : Start s) (past : List (Op rtos)) where
         refuses = λ x c e. (refuses (after s past) x c e, silent (after s past) x c e);
         ledgers = ledgers rtos-lawful s b past;
         semaphores = semaphores rtos-lawful semPart (fits-of {l = kinds} first) s b past;
+        limited = mutex-limit s b past;
         mutexes = mutex.mutexes rtos-lawful mutexPart (fits-of {l = kinds} (later first)) s b past;
       }
 

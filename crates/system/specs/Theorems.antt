@@ -7,7 +7,7 @@ use Rattle.thread.specs.Code.{ok}
 use Rattle.kind.specs.Kind.{Kind}
 use Rattle.sem.specs.Sem.{Sem, take, tryTake, sem-kind}
 use Rattle.sem.specs.Sem as sem
-use Rattle.mutex.specs.Mutex.{Mutex, nobody, thread, lock, tryLock, mutex-kind}
+use Rattle.mutex.specs.Mutex.{Mutex, nobody, thread, lock, tryLock, maxCount, mutex-kind}
 use Rattle.mutex.specs.Mutex as mutex
 use Rattle.system.specs.System.{waiting, object, Sys, Op, invoke, done, Kernel}
 use Rattle.system.specs.Part.{Part}
@@ -78,6 +78,8 @@ pub record Theorems (R : Run rtos) (past : List (Op rtos)) : Type 0 where
   pub ledgers : Ledgers R past
   pub semaphores : Semaphores semPart R past
   pub mutexes : Mutexes mutexPart R past
+  -- a mutex is locked at most 2^32 - 1 times
+  pub limited : (o : ℕ) (m : Mutex) → R .state past .slot o ≡ object (mutexPart .num m) → m .count ≤ maxCount
 
 pub record Whole : Type 0 where
   -- our step keeps the laws, and whatever keeps them is our step
