@@ -20,7 +20,7 @@ use Rattle.pipe.specs.Post.{formed, object, layout, new, size as sizeOf,
 use Rattle.pipe.specs.History.{Call, writes as writesCall, reads as readsCall, resets, closes, clears, does, gives, Event, Runs}
 use Rattle.pipe.specs.HandOver.{used, flags}
 use Rattle.pipe.specs.Upstream.{size, Inv, Err, Init, WriteCheck, ReadCheck, Reset, Close, ClearReset, SpaceGet, DataGet, IsEmpty, IsFull, IsOpen, IsResetting, SizeGet, WriteDecide, ReadDecide, Roundtrip, Conservation, ResetEmpties, CloseClears}
-use Rattle.pipe.proofs.Verdicts.{Within, write-within, read-within, who-waits, write-is, read-is, write-moves, read-moves}
+use Rattle.pipe.proofs.Verdicts.{Within, write-within, read-within, is-proper, write-is, read-is, write-moves, read-moves}
 use Rattle.pipe.proofs.Headers.{Formed, from-formed}
 use Rattle.pipe.proofs.Histories.{sized, Step, step, promise}
 
@@ -200,17 +200,17 @@ told-refuses g h b e = looks-bad layout h b g e
 -- ---- the decide functions
 
 module _ (u s f n : ℕ) (w : Bool) {a c : ℕ} {r : ℤ} {a' c' : ℕ} where
-  pub write-decide : proper u s f w 0 ≡ true → Decided (writeDecision u s f n w) a c r a' c' → WriteDecide f r
+  pub write-decide : proper u s f ≡ true → Decided (writeDecision u s f n w) a c r a' c' → WriteDecide f r
   write-decide p d = record { resetting = λ e. d .code ∙ rw (p, e); closed = λ e o. d .code ∙ rw (p, e, o) }
 
-  pub read-decide : proper u s f w s ≡ true → Decided (readDecision u s f n w) a c r a' c' → ReadDecide f r
+  pub read-decide : proper u s f ≡ true → Decided (readDecision u s f n w) a c r a' c' → ReadDecide f r
   read-decide p d = λ e. d .code ∙ rw (p, e)
 
   -- numbers that no pipe has are refused, and the words stay
-  pub write-decide-refuses : proper u s f w 0 ≡ false → Decided (writeDecision u s f n w) a c r a' c' → (r ≡ einval) × ((a' ≡ a) × (c' ≡ c))
+  pub write-decide-refuses : proper u s f ≡ false → Decided (writeDecision u s f n w) a c r a' c' → (r ≡ einval) × ((a' ≡ a) × (c' ≡ c))
   write-decide-refuses p d = (d .code ∙ rw p, (d .actual ∙ rw p, d .used ∙ rw p))
 
-  pub read-decide-refuses : proper u s f w s ≡ false → Decided (readDecision u s f n w) a c r a' c' → (r ≡ einval) × ((a' ≡ a) × (c' ≡ c))
+  pub read-decide-refuses : proper u s f ≡ false → Decided (readDecision u s f n w) a c r a' c' → (r ≡ einval) × ((a' ≡ a) × (c' ≡ c))
   read-decide-refuses p d = (d .code ∙ rw p, (d .actual ∙ rw p, d .used ∙ rw p))
 
 -- ---- lemmas
@@ -226,8 +226,8 @@ write-read-roundtrip u s n some k fit =
     let z : u + n - n ≡ u = omega arith in
     record {
       back = z;
-      write = write-is u s 1 n false (who-waits u s 1 false 0 some (omega arith) (omega arith)) (write-moves u s 1 n refl k (omega arith) ∙ ap move x);
-      read = read-is (u + n) s 1 n false (who-waits (u + n) s 1 false s some fit (omega arith)) (read-moves (u + n) s 1 n (omega arith) k (omega arith) ∙ ap move y) ∙ ap (λ (j : ℕ). accept (record { actual = n; used = j }) goes) z;
+      write = write-is u s 1 n false (is-proper u s 1 some (omega arith) (omega arith)) (write-moves u s 1 n refl k (omega arith) ∙ ap move x);
+      read = read-is (u + n) s 1 n false (is-proper (u + n) s 1 some fit (omega arith)) (read-moves (u + n) s 1 n (omega arith) k (omega arith) ∙ ap move y) ∙ ap (λ (j : ℕ). accept (record { actual = n; used = j }) goes) z;
     }
 
 pub reset-empties : (p : Pipe) → ResetEmpties p

@@ -1,9 +1,9 @@
 -- What becomes of a write and a read, by the flags and the numbers. Assumes nothing.
-use mathlib.Core.Path.{_≡_, refl, sym, ap, _∙_}
+use mathlib.Core.Path.{_≡_, refl, ap, _∙_}
 use mathlib.Core.Bool.{Bool, true, false, cond}
 use Prim.Native.Nat.{ℕ, _+_, _-_, _≤_, _<_, min}
 use native.Mathlib.Omega.{arith}
-use borrow.Author.Tests.{lt-ltb, le-ltb, lt-leb, le-leb, leb-true, ltb-true, eq-eqb, ne-eqb, eqb-true, eqb-false}
+use borrow.Author.Tests.{lt-ltb, le-ltb, lt-leb, le-leb, leb-true, ltb-true, eq-eqb, ne-eqb, eqb-false}
 use lib.Dec.{eqb, ltb, leb}
 use lib.IntN.{ℤ, pos, negsuc}
 use Rattle.thread.specs.Code.{einval, epipe, enomsg, ecanceled}
@@ -11,7 +11,7 @@ use Rattle.store.specs.Store.{Reply, refuse, accept}
 use Rattle.store.proofs.Laws.{both-true}
 use Rattle.ring_buf.proofs.Rings.{by-lt}
 use Rattle.pipe.specs.Pipe.{Verdict, never, later, move, writes, reads}
-use Rattle.pipe.specs.Post.{isOpen, isResetting, Moves, goes, wakes, pends, decided, proper, writeDecision, readDecision, Decided}
+use Rattle.pipe.specs.Post.{isOpen, isResetting, Moves, goes, wakes, pends, decided, proper, behind, writeDecision, readDecision, Decided}
 
 pub resetting-on : (f : ℕ) → 2 ≤ f → f ≤ 3 → isResetting f ≡ true
 resetting-on f h k = by-lt f 3 (λ l. rw (eq-eqb f 2 (omega arith))) (λ l. rw (eq-eqb f 3 (omega arith), ne-eqb f 2 (λ e. omega arith)))
@@ -92,65 +92,60 @@ module _ {d : Reply Moves} {a u : ℕ} where
   decided-yes : {m : Moves} {r : ℤ} → d ≡ accept m r → Decided d a u r (m .actual) (m .used)
   decided-yes e = rw e (record { code = refl; actual = refl; used = refl })
 
-pub record Proper (used size f : ℕ) (w : Bool) (at : ℕ) : Type 0 where
+pub record Proper (used size f : ℕ) : Type 0 where
   pub some-size : 0 < size
   pub under : used ≤ size
   pub flags : f ≤ 3
-  pub waits : w ≡ true → used ≡ at
 
-module _ (used size f : ℕ) (w : Bool) (at : ℕ) where
-  pub no-size : size ≡ 0 → proper used size f w at ≡ false
+module _ (used size f : ℕ) where
+  pub no-size : size ≡ 0 → proper used size f ≡ false
   no-size e = rw e
 
-  pub over-size : 0 < size → size < used → proper used size f w at ≡ false
+  pub over-size : 0 < size → size < used → proper used size f ≡ false
   over-size g h = rw (lt-ltb 0 size g, lt-leb used size h)
 
-  pub over-flags : 0 < size → used ≤ size → 3 < f → proper used size f w at ≡ false
-  over-flags g h k = rw (lt-ltb 0 size g, le-leb used size h, lt-leb f 3 k)
+  pub by-flags : 0 < size → used ≤ size → proper used size f ≡ leb f 3
+  by-flags g h = rw (lt-ltb 0 size g, le-leb used size h)
 
-  pub who-waits : 0 < size → used ≤ size → f ≤ 3 → proper used size f w at ≡ cond w (eqb used at) true
-  who-waits g h k = rw (lt-ltb 0 size g, le-leb used size h, le-leb f 3 k)
+  pub is-proper : 0 < size → used ≤ size → f ≤ 3 → proper used size f ≡ true
+  is-proper g h k = by-flags g h ∙ le-leb f 3 k
 
-  pub from-proper : proper used size f w at ≡ true → Proper used size f w at
+  pub from-proper : proper used size f ≡ true → Proper used size f
   from-proper e =
       let x = both-true (ltb 0 size) _ e in
       let y = both-true (leb used size) _ (x .1) in
-      let z = both-true (leb f 3) _ (y .1) in
-      record {
-        some-size = ltb-true 0 size (x .0);
-        under = leb-true used size (y .0);
-        flags = leb-true f 3 (z .0);
-        waits = λ g. eqb-true used at (sym (rw g refl) ∙ z .1);
-      }
+      record { some-size = ltb-true 0 size (x .0); under = leb-true used size (y .0); flags = leb-true f 3 (y .1) }
 
 module _ (used size f n : ℕ) (w : Bool) where
-  pub write-is : {v : Verdict} → proper used size f w 0 ≡ true → writes used size (isOpen f) (isResetting f) n ≡ v → writeDecision used size f n w ≡ decided used (cond w wakes goes) (λ k. cond w 0 (used + k)) v
-  write-is p e = rw p (ap (decided used (cond w wakes goes) (λ k. cond w 0 (used + k))) e)
+  pub write-is : {v : Verdict} → proper used size f ≡ true → writes used size (isOpen f) (isResetting f) n ≡ v → writeDecision used size f n w ≡ decided used (cond w wakes goes) (behind w used) v
+  write-is p e = rw p (ap (decided used (cond w wakes goes) (behind w used)) e)
 
-  pub read-is : {v : Verdict} → proper used size f w size ≡ true → reads used (isOpen f) (isResetting f) n ≡ v → readDecision used size f n w ≡ decided used (cond w wakes goes) (λ k. used - k) v
+  pub read-is : {v : Verdict} → proper used size f ≡ true → reads used (isOpen f) (isResetting f) n ≡ v → readDecision used size f n w ≡ decided used (cond w wakes goes) (λ k. used - k) v
   read-is p e = rw p (ap (decided used (cond w wakes goes) (λ k. used - k)) e)
 
 module _ (used size f n : ℕ) (w : Bool) (a u : ℕ) where
-  pub write-improper : proper used size f w 0 ≡ false → Decided (writeDecision used size f n w) a u einval a u
+  pub write-improper : proper used size f ≡ false → Decided (writeDecision used size f n w) a u einval a u
   write-improper e = decided-no (rw e)
 
-  pub read-improper : proper used size f w size ≡ false → Decided (readDecision used size f n w) a u einval a u
+  pub read-improper : proper used size f ≡ false → Decided (readDecision used size f n w) a u einval a u
   read-improper e = decided-no (rw e)
 
-  module _ (p : proper used size f w 0 ≡ true) where
+  module _ (p : proper used size f ≡ true) where
     pub write-refused : {c : ℤ} → writes used size (isOpen f) (isResetting f) n ≡ never c → Decided (writeDecision used size f n w) a u c a u
     write-refused e = decided-no (write-is used size f n w p e)
 
     pub write-pends : writes used size (isOpen f) (isResetting f) n ≡ later → Decided (writeDecision used size f n w) a u pends 0 used
     write-pends e = decided-yes (write-is used size f n w p e)
 
-    pub write-wakes : {k : ℕ} → w ≡ true → writes used size (isOpen f) (isResetting f) n ≡ move k → Decided (writeDecision used size f n w) a u wakes k 0
-    write-wakes {k} g e = decided-yes (write-is used size f n w p e ∙ rw g)
+    pub write-straight : {k : ℕ} → w ≡ true → used ≡ 0 → writes used size (isOpen f) (isResetting f) n ≡ move k → Decided (writeDecision used size f n w) a u wakes k 0
+    write-straight {k} g z e = decided-yes (write-is used size f n w p e ∙ rw (g, eq-eqb used 0 z))
+
+    pub write-behind : {k : ℕ} → w ≡ true → 0 < used → writes used size (isOpen f) (isResetting f) n ≡ move k → Decided (writeDecision used size f n w) a u wakes k (used + k)
+    write-behind {k} g z e = decided-yes (write-is used size f n w p e ∙ rw (g, ne-eqb used 0 (λ y. omega arith)))
 
     pub write-goes : {k : ℕ} → w ≡ false → writes used size (isOpen f) (isResetting f) n ≡ move k → Decided (writeDecision used size f n w) a u goes k (used + k)
     write-goes {k} g e = decided-yes (write-is used size f n w p e ∙ rw g)
 
-  module _ (p : proper used size f w size ≡ true) where
     pub read-refused : {c : ℤ} → reads used (isOpen f) (isResetting f) n ≡ never c → Decided (readDecision used size f n w) a u c a u
     read-refused e = decided-no (read-is used size f n w p e)
 

@@ -76,21 +76,25 @@ decided used r f (never c) = refuse c
 decided used r f later = accept (record { actual = 0; used = used }) pends
 decided used r f (move n) = accept (record { actual = n; used = f n }) r
 
--- numbers that a pipe can have, where somebody waits or nobody; one waits only where so many are held
-abbrev pub proper : ℕ → ℕ → ℕ → Bool → ℕ → Bool
-proper used size flags waits at = cond (ltb 0 size) (cond (leb used size) (cond (leb flags 3) (cond waits (eqb used at) true) false) false) false
+-- numbers that a pipe can have
+abbrev pub proper : ℕ → ℕ → ℕ → Bool
+proper used size flags = cond (ltb 0 size) (cond (leb used size) (leb flags 3) false) false
 
--- a reader waits only if nothing is held: what is written goes straight to it, and nothing is held then
+-- how many are held when k more went in. A reader waits and nothing is held: they went straight to it; else behind what is held
+abbrev pub behind : Bool → ℕ → ℕ → ℕ
+behind reader used k = cond reader (cond (eqb used 0) 0 (used + k)) (used + k)
+
+-- as the pipe itself decides, whoever waits: a reader that waits is woken if bytes move
 abbrev pub writeDecision : ℕ → ℕ → ℕ → ℕ → Bool → Reply Moves
 writeDecision used size flags n reader =
-    cond (proper used size flags reader 0)
-    (decided used (cond reader wakes goes) (λ k. cond reader 0 (used + k)) (writes used size (isOpen flags) (isResetting flags) n))
+    cond (proper used size flags)
+    (decided used (cond reader wakes goes) (behind reader used) (writes used size (isOpen flags) (isResetting flags) n))
     (refuse einval)
 
--- a writer waits only if nothing is free: it writes after the read
+-- alike: a writer that waits is woken, to write after the read
 abbrev pub readDecision : ℕ → ℕ → ℕ → ℕ → Bool → Reply Moves
 readDecision used size flags n writer =
-    cond (proper used size flags writer size)
+    cond (proper used size flags)
     (decided used (cond writer wakes goes) (λ k. used - k) (reads used (isOpen flags) (isResetting flags) n))
     (refuse einval)
 

@@ -263,9 +263,9 @@ pub fn is_resetting(h: &[u32], b: &[u8]) -> i32
     if FLAG_RESET <= h[3] { 1 } else { 0 }
 }
 
-// Whether a pipe can have these numbers, where somebody waits, which is so only if used is at.
-fn proper(used: u32, size: u32, flags: u32, waits: bool, at: u32) -> bool
-    ensures { λ r. ⌜ r ≡ properNumbers used «size» flags waits at ⌝ }
+// Whether a pipe can have these numbers.
+fn proper(used: u32, size: u32, flags: u32) -> bool
+    ensures { λ r. ⌜ r ≡ properNumbers used «size» flags ⌝ }
 {
     if size == 0 {
         return false;
@@ -273,16 +273,11 @@ fn proper(used: u32, size: u32, flags: u32, waits: bool, at: u32) -> bool
     if size < used {
         return false;
     }
-    if BOTH < flags {
-        return false;
-    }
-    if waits {
-        return used == at;
-    }
-    true
+    flags <= BOTH
 }
 
-// OK; WAKE_READER: the bytes go to the reader that waits; PEND: the caller is to wait. Refusals as write, and EINVAL: a reader that waits while there are bytes.
+// Refusals as write, whoever waits. OK; WAKE_READER: a reader that waits is to be woken. If nothing is held the bytes go straight to it, and nothing is
+// held then (request_len is to be at most what it asks for); else they go behind what is held, and it is to read. PEND: the caller is to wait.
 pub fn write_decide(
     used: u32,
     size: u32,
@@ -294,7 +289,7 @@ pub fn write_decide(
 ) -> i32
     ensures { λ r. ⌜ Decided (writeDecision used «size» flags «request_len» «has_reader») (now («actual_bytes» .entry)) (now («new_used» .entry)) r (now («actual_bytes» .exit)) (now («new_used» .exit)) ⌝ }
 {
-    if !proper(used, size, flags, has_reader, 0) {
+    if !proper(used, size, flags) {
         return EINVAL;
     }
     if FLAG_RESET <= flags {
@@ -314,14 +309,18 @@ pub fn write_decide(
     let n = least(request_len, size - used);
     *actual_bytes = n;
     if has_reader {
-        *new_used = 0;
+        if used == 0 {
+            *new_used = 0;
+            return WAKE_READER;
+        }
+        *new_used = used + n;
         return WAKE_READER;
     }
     *new_used = used + n;
     OK
 }
 
-// OK; WAKE_WRITER: then the writer that waits is to write; PEND: the caller is to wait. Refusals as read, and EINVAL: a writer that waits while there is room.
+// Refusals as read, whoever waits. OK; WAKE_WRITER: then those that wait are to write, the first first, as far as there is room; PEND: the caller is to wait.
 pub fn read_decide(
     used: u32,
     size: u32,
@@ -333,7 +332,7 @@ pub fn read_decide(
 ) -> i32
     ensures { λ r. ⌜ Decided (readDecision used «size» flags «request_len» «has_writer») (now («actual_bytes» .entry)) (now («new_used» .entry)) r (now («actual_bytes» .exit)) (now («new_used» .exit)) ⌝ }
 {
-    if !proper(used, size, flags, has_writer, size) {
+    if !proper(used, size, flags) {
         return EINVAL;
     }
     if FLAG_RESET <= flags {

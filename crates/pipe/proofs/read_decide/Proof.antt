@@ -14,7 +14,7 @@ returns : tie.Need-returns
 returns c = let a = c .before .before .args in read-improper (a .used) (a .size) (a .flags) (a .request-len) (a .has-writer) (a .actual-bytes .now) (a .new-used .now) (sym (c .before .proper .ensures) ∙ not-true _ (c .if1 .taken))
 
 returns-2 : tie.Need-returns-2
-returns-2 c = let a = c .before .before .before .args in let p = (sym (c .before .before .proper .ensures) ∙ not-false _ (c .before .if1 .left)) in read-refused (a .used) (a .size) (a .flags) (a .request-len) (a .has-writer) (a .actual-bytes .now) (a .new-used .now) p (read-resetting (a .used) (a .size) (a .flags) (a .request-len) (omega arith) (omega (arith, from-proper (a .used) (a .size) (a .flags) (a .has-writer) (a .size) p)))
+returns-2 c = let a = c .before .before .before .args in let p = (sym (c .before .before .proper .ensures) ∙ not-false _ (c .before .if1 .left)) in read-refused (a .used) (a .size) (a .flags) (a .request-len) (a .has-writer) (a .actual-bytes .now) (a .new-used .now) p (read-resetting (a .used) (a .size) (a .flags) (a .request-len) (omega arith) (omega (arith, from-proper (a .used) (a .size) (a .flags) p)))
 
 returns-3 : tie.Need-returns-3
 returns-3 c = let a = c .before .before .before .before .args in read-refused (a .used) (a .size) (a .flags) (a .request-len) (a .has-writer) (a .actual-bytes .now) (a .new-used .now) (sym (c .before .before .before .proper .ensures) ∙ not-false _ (c .before .before .if1 .left)) (read-none (a .used) (a .size) (a .flags) (a .request-len) (omega arith) (omega arith))
