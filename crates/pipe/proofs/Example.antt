@@ -4,14 +4,16 @@ use mathlib.Core.Bool.{true, false}
 use mathlib.Core.List.{List, [], _∷_}
 use Prim.Native.Nat.{ℕ}
 use native.Mathlib.Omega.{arith}
-use lib.IntN.{pos}
+use lib.IntN.{ℤ, pos}
+use lib.ListN.{length, drop, getD}
 use Rattle.thread.specs.Code.{ok, einval, eagain, epipe, enomsg, ecanceled}
-use Rattle.store.specs.Store.{refuse, accept, answer, reply, Started, left}
+use Rattle.store.specs.Store.{refuse, accept, answer, reply, Becomes, Started, left}
+use Rattle.store.specs.History.{Step, Made, begun, made}
 use Rattle.ring_buf.specs.Ring.{wrap, turn}
 use Rattle.ring_buf.specs.Bytes.{may}
 use Rattle.pipe.specs.Pipe.{Pipe, write, read, taken}
-use Rattle.pipe.specs.Post.{layout, new, wakes, pends, writeDecision, readDecision}
-use Rattle.pipe.specs.History.{Call, writes, reads, resets, closes, clears, does, Event, Runs, stop, call, account, nothing}
+use Rattle.pipe.specs.Post.{object, layout, new, wakes, pends, writeDecision, readDecision}
+use Rattle.pipe.specs.History.{Call, writes, reads, resets, closes, clears, does, gives, got, line, open-by, resetting-by}
 use Rattle.pipe.specs.HandOver.{flags}
 
 abbrev after : List Call → Pipe → Pipe
@@ -89,24 +91,27 @@ started : Started layout (may 4 (9 ∷ 9 ∷ 9 ∷ 9 ∷ [])) (new 4 (9 ∷ 9 �
 unfolding turn
 started = record { code = refl; made = λ e. record { formed = refl; object = refl; beside = refl; rest = refl; long = (refl, refl) }; kept = λ n e. absurd (let y : _≡_ {A = ℕ} 0 1 = cc in omega arith) }
 
-abbrev events : List Event
-events =
-    record { call = writes (1 ∷ 2 ∷ 3 ∷ []); answered = pos 3; given = [] } ∷ record { call = reads 1; answered = pos 1; given = 1 ∷ [] }
-    ∷ record { call = resets; answered = ok; given = [] } ∷ record { call = writes (4 ∷ []); answered = ecanceled; given = [] } ∷ []
+-- the last stands first; the caller's place for the read has room for two
+abbrev after-call : Call → ℤ → List ℕ → Step Call
+after-call k a o = record { call = k; answer = a; out = o }
 
-ran : Runs (4 ∷ 0 ∷ 0 ∷ 1 ∷ []) (9 ∷ 9 ∷ 9 ∷ 9 ∷ []) events (4 ∷ 0 ∷ 0 ∷ 3 ∷ []) written
+abbrev steps : List (Step Call)
+steps = after-call (writes (4 ∷ [])) ecanceled [] ∷ after-call resets ok [] ∷ after-call (reads 1) (pos 1) (1 ∷ 8 ∷ []) ∷ after-call (writes (1 ∷ 2 ∷ 3 ∷ [])) (pos 3) [] ∷ []
+
+becomes : {h b h' b' : List ℕ} {p : Pipe} → layout .formed h' b' ≡ true → object h' b' ≡ p → drop 4 h' ≡ drop 4 h → drop (getD h' 0 0) b' ≡ drop (getD h' 0 0) b → (length h' ≡ length h) × (length b' ≡ length b) → Becomes layout p h b h' b'
+becomes f o w r l = record { formed = f; object = o; beside = w; rest = r; long = l }
+
+ran : Made layout does gives (4 ∷ 0 ∷ 0 ∷ 1 ∷ []) (9 ∷ 9 ∷ 9 ∷ 9 ∷ []) steps (4 ∷ 0 ∷ 0 ∷ 3 ∷ []) written
 unfolding wrap turn
 ran =
-    call {h = 4 ∷ 0 ∷ 0 ∷ 1 ∷ []} {b = 9 ∷ 9 ∷ 9 ∷ 9 ∷ []} {h₁ = 4 ∷ 0 ∷ 3 ∷ 1 ∷ []} {b₁ = written} (writes (1 ∷ 2 ∷ 3 ∷ [])) (pos 3) []
-    (record { code = refl; after = record { formed = refl; object = refl; beside = refl; rest = refl; long = (refl, refl) } }) refl
-    (call {h = 4 ∷ 0 ∷ 3 ∷ 1 ∷ []} {b = written} {h₁ = 4 ∷ 1 ∷ 2 ∷ 1 ∷ []} {b₁ = written} (reads 1) (pos 1) (1 ∷ [])
-    (record { code = refl; after = record { formed = refl; object = refl; beside = refl; rest = refl; long = (refl, refl) } }) refl
-    (call {h = 4 ∷ 1 ∷ 2 ∷ 1 ∷ []} {b = written} {h₁ = 4 ∷ 0 ∷ 0 ∷ 3 ∷ []} {b₁ = written} resets ok []
-    (record { code = refl; after = record { formed = refl; object = refl; beside = refl; rest = refl; long = (refl, refl) } }) refl
-    (call {h = 4 ∷ 0 ∷ 0 ∷ 3 ∷ []} {b = written} {h₁ = 4 ∷ 0 ∷ 0 ∷ 3 ∷ []} {b₁ = written} (writes (4 ∷ [])) ecanceled [] (record { code = refl; after = (refl, refl) }) refl stop)))
+    made {k = writes (4 ∷ [])} {r = ecanceled} {h = 4 ∷ 0 ∷ 0 ∷ 3 ∷ []} {b = written} [] []
+    (made {k = resets} {r = ok} {h = 4 ∷ 1 ∷ 2 ∷ 1 ∷ []} {b = written} [] []
+    (made {k = reads 1} {r = pos 1} {h = 4 ∷ 0 ∷ 3 ∷ 1 ∷ []} {b = written} (7 ∷ 8 ∷ []) (1 ∷ 8 ∷ [])
+    (made {k = writes (1 ∷ 2 ∷ 3 ∷ [])} {r = pos 3} {h = 4 ∷ 0 ∷ 0 ∷ 1 ∷ []} {b = 9 ∷ 9 ∷ 9 ∷ 9 ∷ []} [] [] begun (record { code = refl; after = becomes refl refl refl refl (refl, refl) }) refl)
+    (record { code = refl; after = becomes refl refl refl refl (refl, refl) }) refl) (record { code = refl; after = becomes refl refl refl refl (refl, refl) }) refl) (record { code = refl; after = (refl, refl) }) refl
 
-booked : account events nothing ≡ record { line = 1 ∷ []; got = 1 ∷ [] }
-booked = refl
+booked : (got steps ≡ 1 ∷ []) × (line steps ≡ 1 ∷ []) × (open-by steps ≡ true) × (resetting-by steps ≡ true)
+booked = (refl, refl, refl, refl)
 
 -- flags above 3
 malformed : reply layout (write (1 ∷ [])) (4 ∷ 0 ∷ 0 ∷ 5 ∷ []) written ≡ refuse einval

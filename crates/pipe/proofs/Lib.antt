@@ -2,7 +2,12 @@ pub mod Verdicts
 pub mod Headers
 pub mod Answers
 pub mod Histories
+pub mod Closing
 pub mod Agreements
 pub mod HandOvers
+pub mod Turns
+pub mod Orders
+pub mod Waiters
+pub mod Fairness
 pub mod Example
 pub mod Upstream

@@ -10,19 +10,21 @@ use lib.IntN.{ℤ, pos, negsuc}
 use lib.ListN.{length, take, getD, length-append, length-take, length-drop}
 use Rattle.seq.specs.List.{any}
 use Rattle.thread.specs.Code.{ok, einval}
-use Rattle.store.specs.Store.{accept, answer, Did, looks, handed, Started, left}
-use Rattle.store.proofs.Laws.{looks-is, looks-bad}
+use Rattle.store.specs.Store.{accept, answer, Did, looks, Started, left}
+use Rattle.store.specs.History.{Step, Made}
+use Rattle.store.proofs.Laws.{looks-is, looks-bad, answers}
+use Rattle.store.proofs.Histories.{done as after}
 use Rattle.ring_buf.specs.Ring.{append, leave}
 use Rattle.ring_buf.specs.Bytes.{may}
 use Rattle.ring_buf.proofs.Answers.{held-is, spare-is}
 use Rattle.pipe.specs.Pipe.{Pipe, Verdict, never, later, move, done, holding, toWrite, toRead, write, read, reset, close, clearReset}
 use Rattle.pipe.specs.Post.{formed, object, layout, new, size as sizeOf, data-held, space, isEmpty, isFull, flag, goes, proper, writeDecision, readDecision, Decided}
-use Rattle.pipe.specs.History.{Call, writes as writesCall, reads as readsCall, resets, closes, clears, does, gives, Event, Runs}
+use Rattle.pipe.specs.History.{Call, writes as writesCall, reads as readsCall, resets, closes, clears, does, gives}
 use Rattle.pipe.specs.HandOver.{used, flags}
 use Rattle.pipe.specs.Upstream.{size, Inv, Err, Init, WriteCheck, ReadCheck, Reset, Close, ClearReset, SpaceGet, DataGet, IsEmpty, IsFull, IsOpen, IsResetting, SizeGet, WriteDecide, ReadDecide, Roundtrip, Conservation, ResetEmpties, CloseClears}
 use Rattle.pipe.proofs.Verdicts.{Within, write-within, read-within, is-proper, write-is, read-is, write-moves, read-moves}
 use Rattle.pipe.proofs.Headers.{Formed, from-formed}
-use Rattle.pipe.proofs.Histories.{sized, Step, step, promise}
+use Rattle.pipe.proofs.Histories.{from-init}
 
 no-number : {c n : ℕ} → negsuc c ≡ pos n → ⊥
 no-number e = let y : _≡_ {A = ℕ} 0 1 = cc in omega arith
@@ -123,15 +125,12 @@ module _ (n : ℕ) (p : Pipe) where
 module _ (h b : List ℕ) (f : formed h b ≡ true) where
   -- the pipe after a call of ours, and the answer
   module _ (k : Call) {r : ℤ} {h' b' : List ℕ} (d : Did layout (does k) h b r h' b') where
-    stepped : Step k h b r (handed layout (gives k) h b) h' b'
-    stepped = step k f d refl
-
     -- what holds of the definition's pipe and answer holds of the memory
     meets : (P : ℤ → Pipe → Type 0) → (Inv (left (does k (object h b)) (object h b)) → P (answer (does k (object h b))) (left (does k (object h b)) (object h b))) → P r (object h' b')
     meets P x =
-        let s = stepped in
-        let i = subst Inv (s .is) (inv h' b' (s .good)) in
-        subst (λ (z : ℤ). P z (object h' b')) (sym (s .answered)) (subst (P (answer (does k (object h b)))) (sym (s .is)) (x i))
+        let s = after layout (does k) h b f d in
+        let i = subst Inv (s .1) (inv h' b' (s .0)) in
+        subst (λ (z : ℤ). P z (object h' b')) (sym (answers layout (does k) h b d f)) (subst (P (answer (does k (object h b)))) (sym (s .1)) (x i))
 
   pub write-check : (l : List ℕ) {r : ℤ} {h' b' : List ℕ} → Did layout (write l) h b r h' b' → WriteCheck (length l) (object h b) r (object h' b')
   write-check l d =
@@ -216,8 +215,9 @@ module _ (u s f n : ℕ) (w : Bool) {a c : ℕ} {r : ℤ} {a' c' : ℕ} where
 -- ---- lemmas
 
 -- lemma_invariant_inductive ends in `ensures true`: the invariant holds after any sequence of calls of a new pipe
-pub invariant-inductive : (n : ℕ) {h b h₀ h' b' : List ℕ} {r : ℤ} {es : List Event} → Started layout (may n b) (new n b) h b r h₀ b → r ≡ ok → Runs h₀ b es h' b' → Inv (object h' b')
-invariant-inductive n {h' = h'} {b' = b'} s e run = inv h' b' (promise n s e run .formed)
+pub invariant-inductive : (n : ℕ) {h b h₀ b₀ : List ℕ} → Started layout (may n b) (new n b) h b ok h₀ b₀ → {ss : List (Step Call)} {h' b' : List ℕ} → Made layout does gives h₀ b₀ ss h' b'
+    → Inv (object h' b')
+invariant-inductive n s {h' = h'} {b' = b'} x = inv h' b' (from-init n s x .0)
 
 pub write-read-roundtrip : (u s n : ℕ) → 0 < s → 0 < n → u + n ≤ s → Roundtrip u s n
 write-read-roundtrip u s n some k fit =

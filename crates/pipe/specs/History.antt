@@ -1,16 +1,17 @@
--- What holds of a pipe after any sequence of calls, from the calls and their answers alone.
+-- What holds of a pipe after any sequence of calls, refused ones too: told from the calls, their answers and what they hand out.
 use mathlib.Core.Path.{_≡_}
-use mathlib.Core.Bool.{true, false}
+use mathlib.Core.Bool.{Bool, true, false, cond}
 use mathlib.Core.List.{List, [], _∷_, _++_}
 use Prim.Native.Nat.{ℕ, _+_, min}
 use lib.IntN.{ℤ, pos, negsuc}
 use lib.ListN.{length, take}
 use Rattle.seq.specs.List.{All}
 use Rattle.thread.specs.Code.{ecanceled}
-use Rattle.store.specs.Store.{Reply, accept, handed, Did}
+use Rattle.store.specs.Store.{Reply, accept, answer, left}
+use Rattle.store.specs.History.{Step}
 use Rattle.ring_buf.specs.Ring.{leave}
+use Rattle.ring_buf.specs.History.{accepted, number}
 use Rattle.pipe.specs.Pipe.{Pipe, holding, write, read, taken, reset, close, clearReset}
-use Rattle.pipe.specs.Post.{formed, object, layout}
 
 -- a write of these bytes; a read with room for so many
 pub data Call : Type 0 where
@@ -33,73 +34,88 @@ gives resets p = []
 gives closes p = []
 gives clears p = []
 
--- what a caller sees
-pub record Event : Type 0 where
-  pub call : Call
-  pub answered : ℤ
-  pub given : List ℕ
+-- ---- from a call, its answer and its place for what is handed out
 
--- the memory h and b becomes h' and b' by these calls, the first first, each as its contract says
-pub data Runs : (h b : List ℕ) → List Event → (h' b' : List ℕ) → Type 0 where
-  stop : {h b : List ℕ} → Runs h b [] h b
-  call : {h b h₁ b₁ h' b' : List ℕ} (k : Call) (r : ℤ) (o : List ℕ) {es : List Event} → Did layout (does k) h b r h₁ b₁ → o ≡ handed layout (gives k) h b
-      → Runs h₁ b₁ es h' b' → Runs h b (record { call = k; answered = r; given = o } ∷ es) h' b'
+-- the bytes that went in by it: as many of the first as the answer says
+abbrev pub putBy : Call → ℤ → List ℕ
+putBy (writes l) a = take (number a) l
+putBy (reads n) a = []
+putBy resets a = []
+putBy closes a = []
+putBy clears a = []
 
--- ---- the line of bytes, by what callers saw
+-- the bytes that came out by it: as many as the answer says stand first in the caller's place
+abbrev pub gotBy : Call → ℤ → List ℕ → List ℕ
+gotBy (writes l) a o = []
+gotBy (reads n) a o = take (number a) o
+gotBy resets a o = []
+gotBy closes a o = []
+gotBy clears a o = []
 
-pub record Account : Type 0 where
-  -- what went in, and no reset took back
-  pub line : List ℕ
-  -- what was handed out
-  pub got : List ℕ
+-- it was a reset
+abbrev pub wipes : Call → ℤ → Bool
+wipes (writes l) a = false
+wipes (reads n) a = false
+wipes resets a = accepted a
+wipes closes a = false
+wipes clears a = false
 
--- what went in by a write of l: as many of its first as the answer says
-abbrev pub sent : List ℕ → ℤ → List ℕ
-sent l (pos n) = take n l
-sent l (negsuc c) = []
+-- whether the pipe is open then, and whether it is resetting, if it was so or not
+abbrev pub opens : Call → ℤ → Bool → Bool
+opens (writes l) a x = x
+opens (reads n) a x = x
+opens resets a x = x
+opens closes a x = cond (accepted a) false x
+opens clears a x = x
 
--- what a reset leaves of the line
-abbrev pub cut : ℤ → Account → List ℕ
-cut (pos n) a = a .got
-cut (negsuc c) a = a .line
+abbrev pub cancels : Call → ℤ → Bool → Bool
+cancels (writes l) a x = x
+cancels (reads n) a x = x
+cancels resets a x = cond (accepted a) true x
+cancels closes a x = cond (accepted a) false x
+cancels clears a x = cond (accepted a) false x
 
-abbrev pub seen : Call → ℤ → List ℕ → Account → Account
-seen (writes l) r o a = record { line = a .line ++ sent l r; got = a .got }
-seen (reads n) r o a = record { line = a .line; got = a .got ++ o }
-seen resets r o a = record { line = cut r a; got = a .got }
-seen closes r o a = a
-seen clears r o a = a
+-- ---- from all of them, of which the last stands first
 
-abbrev pub account : List Event → Account → Account
-account [] a = a
-account (e ∷ es) a = account es (seen (e .call) (e .answered) (e .given) a)
+-- all bytes that came out, the first first
+abbrev pub got : List (Step Call) → List ℕ
+got [] = []
+got (s ∷ ss) = got ss ++ gotBy (s .call) (s .answer) (s .out)
 
--- of a new pipe nothing is in the books
-abbrev pub nothing : Account
-nothing = record { line = []; got = [] }
+-- all bytes that went in, the first first; a reset cuts off those that did not come out
+abbrev pub line : List (Step Call) → List ℕ
+line [] = []
+line (s ∷ ss) = cond (wipes (s .call) (s .answer)) (got ss) (line ss ++ putBy (s .call) (s .answer))
 
--- ---- what holds after the events es of a new pipe of n bytes
+-- open until it is closed; resetting from a reset until that is over, or the pipe is closed
+abbrev pub open-by : List (Step Call) → Bool
+open-by [] = true
+open-by (s ∷ ss) = opens (s .call) (s .answer) (open-by ss)
 
-pub record Promise (n : ℕ) (es : List Event) (h b : List ℕ) : Type 0 where
-  pub formed : formed h b ≡ true
-  -- what was handed out, then what is held, is what went in: byte for byte, in order, each once
-  pub line : account es nothing .line ≡ account es nothing .got ++ object h b .ring .held
+abbrev pub resetting-by : List (Step Call) → Bool
+resetting-by [] = false
+resetting-by (s ∷ ss) = cancels (s .call) (s .answer) (resetting-by ss)
+
+-- ---- after these steps a new pipe of n bytes is p
+
+pub record Promise (n : ℕ) (ss : List (Step Call)) (p : Pipe) : Type 0 where
+  -- what came out, then what is held, is what went in: byte for byte, in order, each once
+  pub order : got ss ++ p .ring .held ≡ line ss
   -- its size stays, and no byte of it is lost
-  pub size : object h b .ring .capacity ≡ n
-  pub whole : length (object h b .ring .held) + length (object h b .ring .spare) ≡ n
+  pub size : p .ring .capacity ≡ n
+  pub whole : length (p .ring .held) + length (p .ring .spare) ≡ n
+  -- its flags
+  pub opened : p .opened ≡ open-by ss
+  pub resetting : p .resetting ≡ resetting-by ss
+  -- a call that is answered below 0 changes nothing
+  pub refused : (k : Call) (c : ℕ) → answer (does k p) ≡ negsuc c → left (does k p) p ≡ p
 
--- a write by which nothing went in, or another call
-abbrev pub unwritten : Call → ℤ → Type 0
-unwritten (writes l) r = sent l r ≡ []
-unwritten (reads n) r = Unit {0}
-unwritten resets r = Unit {0}
-unwritten closes r = Unit {0}
-unwritten clears r = Unit {0}
+-- ---- after these steps a pipe that was closed, or was being reset, is p
 
 -- once a pipe is closed, it is closed for ever, and nothing goes in
-pub record Closed (es : List Event) (h b : List ℕ) : Type 0 where
-  pub stays : object h b .opened ≡ false
-  pub unwritten : All (λ (e : Event). unwritten (e .call) (e .answered)) es
+pub record Closed (ss : List (Step Call)) (p : Pipe) : Type 0 where
+  pub stays : p .opened ≡ false
+  pub unwritten : All (λ (s : Step Call). putBy (s .call) (s .answer) ≡ []) ss
 
 -- what is held can be read, closed or not
 pub record Readable (n : ℕ) (p : Pipe) : Type 0 where
@@ -115,15 +131,15 @@ Ends closes = Unit {0}
 Ends clears = Unit {0}
 
 -- a write or a read that is cancelled, or another call
-abbrev pub cancelled : Call → ℤ → List ℕ → Type 0
-cancelled (writes l) r o = r ≡ ecanceled
-cancelled (reads n) r o = (r ≡ ecanceled) × (o ≡ [])
-cancelled resets r o = Unit {0}
-cancelled closes r o = Unit {0}
-cancelled clears r o = Unit {0}
+abbrev pub cancelled : Call → ℤ → Type 0
+cancelled (writes l) r = r ≡ ecanceled
+cancelled (reads n) r = r ≡ ecanceled
+cancelled resets r = Unit {0}
+cancelled closes r = Unit {0}
+cancelled clears r = Unit {0}
 
 -- until a reset is ended, each write and each read is cancelled
-pub record Cancelled (es : List Event) (h b : List ℕ) : Type 0 where
-  pub stays : object h b .resetting ≡ true
-  pub empty : object h b .ring .held ≡ []
-  pub cancelled : All (λ (e : Event). cancelled (e .call) (e .answered) (e .given)) es
+pub record Cancelled (ss : List (Step Call)) (p : Pipe) : Type 0 where
+  pub stays : p .resetting ≡ true
+  pub empty : p .ring .held ≡ []
+  pub cancelled : All (λ (s : Step Call). cancelled (s .call) (s .answer)) ss

@@ -2,4 +2,5 @@ pub mod Pipe
 pub mod Post
 pub mod History
 pub mod HandOver
+pub mod Waiting
 pub mod Upstream

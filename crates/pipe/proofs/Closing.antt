@@ -1,0 +1,85 @@
+-- A pipe that is closed, and one that is being reset. Assumes nothing.
+use mathlib.Core.Path.{_≡_, refl, sym, ap, _∙_}
+use mathlib.Core.Bool.{Bool, true, false}
+use mathlib.Core.List.{List, []}
+use Prim.Native.Nat.{ℕ, _<_, min}
+use native.Mathlib.Omega.{arith}
+use borrow.Author.Tests.{ne-eqb, lt-ltb}
+use lib.ListN.{length, take}
+use Rattle.seq.specs.List.{All}
+use Rattle.thread.specs.Code.{ecanceled}
+use Rattle.store.specs.Store.{Reply, refuse, answer, left}
+use Rattle.store.specs.History.{Step, Ran, fresh, ran, Made}
+use Rattle.store.proofs.Histories.{runs}
+use Rattle.ring_buf.specs.Ring.{append, leave}
+use Rattle.pipe.specs.Pipe.{Pipe, Verdict, never, later, move, moved, done, holding, toWrite, toRead, write, read}
+use Rattle.pipe.specs.Post.{formed, object, layout}
+use Rattle.pipe.specs.History.{Call, writes, reads, resets, closes, clears, does, gives, putBy, Closed, Readable, Ends, cancelled, Cancelled}
+use Rattle.pipe.proofs.Answers.{take-least}
+
+-- ---- closed
+
+spared : {X : Type 0} (g : Pipe → X) (p : Pipe) (f : ℕ → Pipe) → ((k : ℕ) → g (f k) ≡ g p) → (v : Verdict) → g (left (done f v) p) ≡ g p
+spared g p f h (never c) = refl
+spared g p f h later = refl
+spared g p f h (move k) = h k
+
+still : (k : Call) (p : Pipe) → p .opened ≡ false → left (does k p) p .opened ≡ false
+still (writes l) p e = spared (λ q. q .opened) p (λ k. holding (append (take k l) (p .ring)) p) (λ k. refl) (toWrite (length l) p) ∙ e
+still (reads n) p e = spared (λ q. q .opened) p (λ k. holding (leave k (p .ring)) p) (λ k. refl) (toRead n p) ∙ e
+still resets p e = e
+still closes p e = refl
+still clears p e = e
+
+nothing-sent : (k : Call) (p : Pipe) → p .opened ≡ false → putBy k (answer (does k p)) ≡ []
+nothing-sent (writes l) p e = go (p .resetting) refl
+  where
+    go : (t : Bool) → p .resetting ≡ t → putBy (writes l) (answer (write l p)) ≡ []
+    go true x = rw x
+    go false x = rw (x, e)
+nothing-sent (reads n) p e = refl
+nothing-sent resets p e = refl
+nothing-sent closes p e = refl
+nothing-sent clears p e = refl
+
+closed-ran : {p₀ : Pipe} → p₀ .opened ≡ false → {ss : List (Step Call)} {p : Pipe} → Ran does gives p₀ ss p → Closed ss p
+closed-ran e fresh = record { stays = e; unwritten = tt }
+closed-ran e (ran {s = p} {k} o o' x f) = let c = closed-ran e x in record { stays = still k p (c .stays); unwritten = (nothing-sent k p (c .stays), c .unwritten) }
+
+pub closed : {h₀ b₀ : List ℕ} → formed h₀ b₀ ≡ true → object h₀ b₀ .opened ≡ false → {ss : List (Step Call)} {h b : List ℕ} → Made layout does gives h₀ b₀ ss h b → Closed ss (object h b)
+closed f e m = closed-ran e (runs layout does gives f m .1)
+
+pub readable : (n : ℕ) (p : Pipe) → p .resetting ≡ false → 0 < n → 0 < length (p .ring .held) → Readable n p
+readable n p e f g =
+    let v : toRead n p ≡ move (min n (length (p .ring .held))) = rw (e, ne-eqb n 0 (λ z. omega arith), lt-ltb 0 (length (p .ring .held)) g) in
+    record {
+      bytes = ap (λ (x : Verdict). take (moved x) (p .ring .held)) v ∙ sym (take-least n (p .ring .held));
+      done = ap (done (λ k. holding (leave k (p .ring)) p)) v;
+    }
+
+-- ---- resetting
+
+module _ (p : Pipe) (e : p .resetting ≡ true) (z : p .ring .held ≡ []) where
+  write-void : (l : List ℕ) → write l p ≡ refuse ecanceled
+  write-void l = rw e
+
+  read-void : (n : ℕ) → read n p ≡ refuse ecanceled
+  read-void n = rw e
+
+  void : (k : Call) → (Ends k → ⊥) → (left (does k p) p .resetting ≡ true) × ((left (does k p) p .ring .held ≡ []) × cancelled k (answer (does k p)))
+  void (writes l) f = (ap (λ (y : Reply Pipe). left y p .resetting) (write-void l) ∙ e, (ap (λ (y : Reply Pipe). left y p .ring .held) (write-void l) ∙ z, ap answer (write-void l)))
+  void (reads n) f = (ap (λ (y : Reply Pipe). left y p .resetting) (read-void n) ∙ e, (ap (λ (y : Reply Pipe). left y p .ring .held) (read-void n) ∙ z, ap answer (read-void n)))
+  void resets f = (refl, (refl, tt))
+  void closes f = absurd (f tt)
+  void clears f = absurd (f tt)
+
+cancelled-ran : {p₀ : Pipe} → p₀ .resetting ≡ true → p₀ .ring .held ≡ [] → {ss : List (Step Call)} {p : Pipe} → Ran does gives p₀ ss p → All (λ (s : Step Call). Ends (s .call) → ⊥) ss → Cancelled ss p
+cancelled-ran e z fresh n = record { stays = e; empty = z; cancelled = tt }
+cancelled-ran e z (ran {s = p} {k} o o' x f) n =
+    let c = cancelled-ran e z x (n .1) in
+    let v = void p (c .stays) (c .empty) k (n .0) in
+    record { stays = v .0; empty = v .1 .0; cancelled = (v .1 .1, c .cancelled) }
+
+pub cancels : {h₀ b₀ : List ℕ} → formed h₀ b₀ ≡ true → object h₀ b₀ .resetting ≡ true → object h₀ b₀ .ring .held ≡ [] → {ss : List (Step Call)} {h b : List ℕ} → Made layout does gives h₀ b₀ ss h b
+    → All (λ (s : Step Call). Ends (s .call) → ⊥) ss → Cancelled ss (object h b)
+cancels f e z m n = cancelled-ran e z (runs layout does gives f m .1) n
