@@ -1,19 +1,24 @@
 -- Any events keep what is promised where threads wait, and nobody waits for ever. Assumes nothing.
-use mathlib.Core.Path.{_≡_, refl, ap, subst, sym, _∙_}
+use mathlib.Core.Path.{_≡_, refl, ap, subst, _∙_}
 use mathlib.Core.Bool.{Bool, true, false}
-use mathlib.Core.List.{List, [], _∷_, _++_}
+use mathlib.Core.List.{List, [], _∷_}
 use Prim.Native.Nat.{ℕ, zero, suc, _-_, _≤_, _<_, min}
 use native.Mathlib.Omega.{arith}
-use lib.ListN.{length, take}
+use lib.IntN.{ℤ}
+use lib.ListN.{length}
 use Rattle.seq.specs.List.{any}
-use Rattle.store.specs.Store.{Reply}
+use Rattle.store.specs.Store.{Reply, refuse}
 use Rattle.ring_buf.proofs.Rings.{by-lt}
 use Rattle.pipe.specs.Pipe.{Pipe}
 use Rattle.pipe.specs.Post.{Moves, new}
 use Rattle.pipe.specs.HandOver.{used}
-use Rattle.pipe.specs.Waiting.{Waited, Event, writing, reading, entering, wanted, told, happens, ends, Fair, Enters, lets, Settled}
-use Rattle.pipe.proofs.Turns.{write-none, write-waits, write-moves}
-use Rattle.pipe.proofs.Waiters.{waited, write-fair, enter-fair, read-fair, none-wanted}
+use Rattle.pipe.specs.Waiting.{Waited, Event, writing, reading, entering, tries, resets, closes, clears, wanted, decides-write, told, happens, ends}
+use Rattle.pipe.specs.Fair.{Fair, Enters, lets, Settled}
+use Rattle.pipe.proofs.Turns.{write-cancelled, write-broken, write-none, write-waits, write-moves}
+use Rattle.pipe.proofs.Waiters.{waited, none-wanted, by-flags}
+use Rattle.pipe.proofs.Writing.{write-fair, enter-fair}
+use Rattle.pipe.proofs.Reading.{read-fair}
+use Rattle.pipe.proofs.Orders.{cut-close}
 
 -- with other writers
 abbrev with : Waited → List (List ℕ) → Waited
@@ -21,9 +26,35 @@ with s w = waited (s .pipe) (s .readers) w (s .letting) (s .called) (s .went) (s
 
 module _ (c : ℕ) (some : 0 < c) where
   pub next-fair : (e : Event) (s : Waited) → Fair c s → Fair c (happens s e)
-  next-fair (writing l k) s f = write-fair c some (s .pipe) (s .letting) (s .called) (s .went) (s .got) (s .readers) (s .writers) l k f
-  next-fair (reading n k) s f = read-fair c some (s .pipe) (s .letting) (s .called) (s .went) (s .got) (s .readers) (s .writers) n k f
-  next-fair entering s f = enter-fair c some (s .pipe) (s .letting) (s .called) (s .went) (s .got) (s .readers) (s .writers) f
+  next-fair (tries (writing l k)) s f = write-fair c some (s .pipe) (s .letting) (s .called) (s .went) (s .got) (s .readers) (s .writers) l k f
+  next-fair (tries (reading n k)) s f = read-fair c some (s .pipe) (s .letting) (s .called) (s .went) (s .got) (s .readers) (s .writers) n k f
+  next-fair (tries entering) s f = enter-fair c some (s .pipe) (s .letting) (s .called) (s .went) (s .got) (s .readers) (s .writers) f
+  next-fair resets s f =
+      record { size = f .size; under = omega arith; live = λ d. absurd (omega arith); asks = tt; offers = tt; no-byte = λ d. refl; no-room = λ d y. absurd (omega arith); line = refl; order = tt }
+  next-fair closes s f =
+      record {
+        size = f .size;
+        under = f .under;
+        live = λ d. absurd (omega arith);
+        asks = tt;
+        offers = tt;
+        no-byte = λ d. absurd (omega arith);
+        no-room = λ d y. absurd (omega arith);
+        line = f .line;
+        order = cut-close (s .went) (s .writers) (s .called) (f .order);
+      }
+  next-fair clears s f =
+      record {
+        size = f .size;
+        under = f .under;
+        live = λ d. (f .live d .0, refl);
+        asks = f .asks;
+        offers = f .offers;
+        no-byte = f .no-byte;
+        no-room = f .no-room;
+        line = f .line;
+        order = f .order;
+      }
 
   pub fair : (es : List Event) (s : Waited) → Fair c s → Fair c (ends s es)
   fair [] s f = f
@@ -33,14 +64,14 @@ module _ (c : ℕ) (some : 0 < c) where
   pub always-fair : (b : List ℕ) (es : List Event) → Fair c (ends (waited (new c b) [] [] false [] [] []) es)
   always-fair b es =
       fair es (waited (new c b) [] [] false [] [] [])
-      (record { size = refl; under = omega arith; opened = (refl, refl); asks = tt; offers = tt; no-byte = λ d. refl; no-room = λ d y. absurd (omega arith); line = refl; order = tt })
+      (record { size = refl; under = omega arith; live = λ d. (refl, refl); asks = tt; offers = tt; no-byte = λ d. refl; no-room = λ d y. absurd (omega arith); line = refl; order = tt })
 
   -- ---- nobody waits for ever
 
   module _ (p : Pipe) (b : Bool) (cs wt : List (List ℕ)) (g : List ℕ) where
     pub enters : (r : List ℕ) (x : List ℕ) (w : List (List ℕ)) → used p < c → Fair c (waited p r (x ∷ w) b cs wt g) → Enters (waited p r (x ∷ w) b cs wt g) x w
     enters [] x w h f =
-        let m = write-moves p (f .opened .0) (f .opened .1) (omega arith) (omega arith) (length x) false (f .offers .0) (omega arith) in
+        let m = write-moves p (f .live (omega arith) .0) (f .live (omega arith) .1) (omega arith) (omega arith) (length x) false (f .offers .0) (omega arith) in
         record {
           told = min (length x) (p .ring .capacity - used p);
           some = omega (arith, f .offers .0);
@@ -49,7 +80,7 @@ module _ (c : ℕ) (some : 0 < c) where
           went = ap (λ (d : Reply Moves). told entering d (waited p [] (x ∷ w) b cs wt g) .went) m;
         }
     enters (a ∷ r) x w h f =
-        let m = write-moves p (f .opened .0) (f .opened .1) (omega arith) (omega arith) (min a (length x)) true (omega (arith, f .asks .0, f .offers .0)) (omega arith) in
+        let m = write-moves p (f .live (omega arith) .0) (f .live (omega arith) .1) (omega arith) (omega arith) (min a (length x)) true (omega (arith, f .asks .0, f .offers .0)) (omega arith) in
         record {
           told = min (min a (length x)) (p .ring .capacity - used p);
           some = omega (arith, f .asks .0, f .offers .0);
@@ -59,15 +90,20 @@ module _ (c : ℕ) (some : 0 < c) where
         }
 
     -- a try where nobody waits, and one where there is no room
-    nobody : (r : List ℕ) → Fair c (waited p r [] b cs wt g) → happens (waited p r [] b cs wt g) entering .writers ≡ []
-    nobody r f = ap (λ (d : Reply Moves). told entering d (waited p r [] b cs wt g) .writers) (write-none p (f .opened .0) (f .opened .1) (omega arith) (omega arith) (wanted r []) (any r) (none-wanted r))
+    nobody : (r : List ℕ) → Fair c (waited p r [] b cs wt g) → happens (waited p r [] b cs wt g) (tries entering) .writers ≡ []
+    nobody r f =
+        by-flags p (λ e. by (write-cancelled p (omega arith) (omega arith) (wanted r []) (any r) e)) (λ e o. by (write-broken p (omega arith) (omega arith) (wanted r []) (any r) e o))
+        (λ e o. by (write-none p o e (omega arith) (omega arith) (wanted r []) (any r) (none-wanted r)))
+      where
+        by : {z : ℤ} → decides-write p (wanted r []) (any r) ≡ refuse z → happens (waited p r [] b cs wt g) (tries entering) .writers ≡ []
+        by e = ap (λ (d : Reply Moves). told entering d (waited p r [] b cs wt g) .writers) e
 
-    full : (r x : List ℕ) (w : List (List ℕ)) → used p ≡ c → Fair c (waited p r (x ∷ w) b cs wt g) → used (happens (waited p r (x ∷ w) b cs wt g) entering .pipe) ≡ c
+    full : (r x : List ℕ) (w : List (List ℕ)) → used p ≡ c → Fair c (waited p r (x ∷ w) b cs wt g) → used (happens (waited p r (x ∷ w) b cs wt g) (tries entering) .pipe) ≡ c
     full [] x w e f =
-        ap (λ (d : Reply Moves). used (told entering d (waited p [] (x ∷ w) b cs wt g) .pipe)) (write-waits p (f .opened .0) (f .opened .1) (omega arith) (omega arith) (length x) false (f .offers .0) (omega arith)) ∙ e
+        ap (λ (d : Reply Moves). used (told entering d (waited p [] (x ∷ w) b cs wt g) .pipe)) (write-waits p (f .live (omega arith) .0) (f .live (omega arith) .1) (omega arith) (omega arith) (length x) false (f .offers .0) (omega arith)) ∙ e
     full (a ∷ r) x w e f = absurd (omega (arith, ap length (f .no-byte (omega arith))))
 
-    once : (r : List ℕ) (w : List (List ℕ)) → Fair c (waited p r w b cs wt g) → (0 < length w → used p ≡ c) → Settled c (happens (waited p r w b cs wt g) entering)
+    once : (r : List ℕ) (w : List (List ℕ)) → Fair c (waited p r w b cs wt g) → (0 < length w → used p ≡ c) → Settled c (happens (waited p r w b cs wt g) (tries entering))
     once r [] f z = λ d. absurd (omega (arith, ap length (nobody r f)))
     once r (x ∷ w) f z = λ d. full r x w (z (omega arith)) f
 
@@ -75,16 +111,16 @@ module _ (c : ℕ) (some : 0 < c) where
   stays : (n : ℕ) (s : Waited) → Fair c s → Settled c s → Settled c (lets n s)
   stays zero s f z = z
   stays (suc n) s f z =
-      stays n (happens s entering) (next-fair entering s f) (once (s .pipe) (s .letting) (s .called) (s .went) (s .got) (s .readers) (s .writers) f z)
+      stays n (happens s (tries entering)) (next-fair (tries entering) s f) (once (s .pipe) (s .letting) (s .called) (s .went) (s .got) (s .readers) (s .writers) f z)
 
   pub lets-all : (n : ℕ) (s : Waited) → Fair c s → length (s .writers) ≤ n → Settled c (lets n s)
   lets-all zero s f h = λ d. absurd (omega arith)
   lets-all (suc n) s f h =
-      by-lt (used (s .pipe)) c (λ k. room (s .writers) refl k (lets-all n (happens s entering) (next-fair entering s f))) (λ k. stays (suc n) s f (λ d. omega (arith, f .under)))
+      by-lt (used (s .pipe)) c (λ k. room (s .writers) refl k (lets-all n (happens s (tries entering)) (next-fair (tries entering) s f))) (λ k. stays (suc n) s f (λ d. omega (arith, f .under)))
     where
-      room : (w : List (List ℕ)) → s .writers ≡ w → used (s .pipe) < c → (length (happens s entering .writers) ≤ n → Settled c (lets n (happens s entering))) → Settled c (lets (suc n) s)
+      room : (w : List (List ℕ)) → s .writers ≡ w → used (s .pipe) < c → (length (happens s (tries entering) .writers) ≤ n → Settled c (lets n (happens s (tries entering)))) → Settled c (lets (suc n) s)
       room [] e k i = stays (suc n) s f (λ d. absurd (omega (arith, ap length e)))
       room (x ∷ w) e k i =
           let t = enters (s .pipe) (s .letting) (s .called) (s .went) (s .got) (s .readers) x w k (subst (λ (y : List (List ℕ)). Fair c (with s y)) e f) in
-          let q : length (happens s entering .writers) ≡ length w = ap (λ (y : List (List ℕ)). length (happens (with s y) entering .writers)) e ∙ ap length (t .writers) in
+          let q : length (happens s (tries entering) .writers) ≡ length w = ap (λ (y : List (List ℕ)). length (happens (with s y) (tries entering) .writers)) e ∙ ap length (t .writers) in
           i (omega (arith, ap length e))

@@ -8,6 +8,9 @@ pub mod HandOvers
 pub mod Turns
 pub mod Orders
 pub mod Waiters
+pub mod Writing
+pub mod Reading
 pub mod Fairness
 pub mod Example
+pub mod ExampleWaiting
 pub mod Upstream

@@ -1,12 +1,12 @@
 -- The books of a pipe where threads wait: what went in, in the order of the writes. Assumes nothing.
-use mathlib.Core.Path.{_≡_, refl, sym, ap, subst, _∙_}
+use mathlib.Core.Path.{_≡_, sym, ap, subst, _∙_}
 use mathlib.Core.List.{List, [], _∷_, _++_, append-assoc, append-nil}
 use Prim.Native.Nat.{ℕ, _≤_, _<_}
 use native.Mathlib.Omega.{arith}
 use lib.ListN.{length, take, drop, take-append-drop, length-take}
 use lib.Seq.{take-all, take-take}
 use Rattle.seq.specs.List.{All}
-use Rattle.pipe.specs.Waiting.{joined, Cut}
+use Rattle.pipe.specs.Fair.{joined, Cut}
 
 -- ---- the line
 
@@ -60,6 +60,12 @@ cut-enter [] x w [] n f g e = absurd e
 cut-enter [] x w (y ∷ b) n f g e = (part-less n x y f g (e .0), e .1)
 cut-enter (z ∷ a) x w [] n f g e = absurd e
 cut-enter (z ∷ a) x w (y ∷ b) n f g e = (e .0, cut-enter a x w b n f g (e .1))
+
+-- those that wait do not count any more
+pub cut-close : (a w b : List (List ℕ)) → Cut (a ++ w) b → Cut (a ++ []) (take (length a) b)
+cut-close [] w b e = tt
+cut-close (x ∷ a) w [] e = absurd e
+cut-close (x ∷ a) w (y ∷ b) e = (e .0, cut-close a w b (e .1))
 
 pub all-snoc : {A : Type 0} (P : A → Type 0) (l : List A) (x : A) → All P l → P x → All P (l ++ x ∷ [])
 all-snoc P [] x a e = (e, tt)

@@ -3,4 +3,5 @@ pub mod Post
 pub mod History
 pub mod HandOver
 pub mod Waiting
+pub mod Fair
 pub mod Upstream

@@ -1,0 +1,89 @@
+-- Runs of a pipe of four bytes where threads wait, by computing. Assumes nothing.
+use mathlib.Core.Path.{_≡_, refl}
+use mathlib.Core.Bool.{true, false}
+use mathlib.Core.List.{List, [], _∷_}
+use Prim.Native.Nat.{ℕ}
+use Rattle.thread.specs.Code.{einval, epipe, ecanceled}
+use Rattle.store.specs.Store.{refuse, accept}
+use Rattle.ring_buf.specs.Ring.{wrap, turn}
+use Rattle.pipe.specs.Post.{new, goes, wakes, pends, writeDecision, readDecision}
+use Rattle.pipe.specs.Waiting.{Waited, Event, writing, reading, entering, tries, resets, closes, ends}
+use Rattle.pipe.specs.Fair.{lets}
+use Rattle.pipe.proofs.Waiters.{waited}
+
+abbrev after : List Event → Waited
+after es = ends (waited (new 4 (0 ∷ 0 ∷ 0 ∷ 0 ∷ [])) [] [] false [] [] []) es
+
+abbrev write : List ℕ → Event
+write l = tries (writing l false)
+
+abbrev read : ℕ → Event
+read n = tries (reading n false)
+
+abbrev enter : Event
+enter = tries entering
+
+-- ---- a full pipe, where two writers wait with a byte each
+
+abbrev full : List Event
+full = write (1 ∷ 2 ∷ 3 ∷ 4 ∷ []) ∷ write (5 ∷ []) ∷ write (6 ∷ []) ∷ []
+
+two-wait : (after full .pipe .ring .held ≡ 1 ∷ 2 ∷ 3 ∷ 4 ∷ []) × (after full .writers ≡ (5 ∷ []) ∷ (6 ∷ []) ∷ [])
+unfolding turn wrap
+two-wait = (refl, refl)
+
+-- all is read: 1; the first writer writes; the next read finds its byte while the second writer waits: 1 again; then that writes
+abbrev first : Waited
+first = ends (after full) (read 4 ∷ enter ∷ [])
+
+abbrev second : Waited
+second = ends first (read 1 ∷ enter ∷ [])
+
+one-wrote : (first .got ≡ 1 ∷ 2 ∷ 3 ∷ 4 ∷ []) × (first .pipe .ring .held ≡ 5 ∷ []) × (first .writers ≡ (6 ∷ []) ∷ []) × (first .letting ≡ true)
+unfolding turn wrap
+one-wrote = (refl, refl, refl, refl)
+
+both-wrote : (second .got ≡ 1 ∷ 2 ∷ 3 ∷ 4 ∷ 5 ∷ []) × (second .pipe .ring .held ≡ 6 ∷ []) × (second .writers ≡ []) × (second .called ≡ second .went)
+unfolding turn wrap
+both-wrote = (refl, refl, refl, refl)
+
+answers : (readDecision 4 4 1 4 true ≡ accept (record { actual = 4; used = 0 }) wakes) × (writeDecision 0 4 1 1 false ≡ accept (record { actual = 1; used = 1 }) goes)
+    × (readDecision 1 4 1 1 true ≡ accept (record { actual = 1; used = 0 }) wakes)
+answers = (refl, refl, refl)
+
+-- a whole read: all that wait are let in, as far as there is room
+whole : lets 2 (ends (after full) (read 1 ∷ [])) .writers ≡ (6 ∷ []) ∷ []
+unfolding turn wrap
+whole = refl
+
+-- a reader comes before the first writer writes: it waits and is handed that byte; nothing is held, and the second writer is let in all the same
+between : (ends (after full) (read 4 ∷ read 2 ∷ []) .readers ≡ 2 ∷ []) × (ends (after full) (read 4 ∷ read 2 ∷ enter ∷ []) .got ≡ 1 ∷ 2 ∷ 3 ∷ 4 ∷ 5 ∷ [])
+    × (ends (after full) (read 4 ∷ read 2 ∷ enter ∷ []) .letting ≡ true) × (ends (after full) (read 4 ∷ read 2 ∷ enter ∷ enter ∷ []) .pipe .ring .held ≡ 6 ∷ [])
+unfolding turn wrap
+between = (refl, refl, refl, refl)
+
+-- a write comes before the first writer writes: it goes past nobody
+behind-them : ends (after full) (read 4 ∷ write (7 ∷ []) ∷ enter ∷ enter ∷ enter ∷ []) .pipe .ring .held ≡ 5 ∷ 6 ∷ 7 ∷ []
+unfolding turn wrap
+behind-them = refl
+
+-- ---- two readers wait, and each gets what it asks for; the rest goes into the pipe
+
+readers : (after (read 1 ∷ read 2 ∷ write (1 ∷ 2 ∷ 3 ∷ 4 ∷ []) ∷ []) .got ≡ 1 ∷ []) × (after (read 1 ∷ read 2 ∷ write (1 ∷ 2 ∷ 3 ∷ 4 ∷ []) ∷ write (2 ∷ 3 ∷ 4 ∷ []) ∷ []) .got ≡ 1 ∷ 2 ∷ 3 ∷ [])
+    × (after (read 1 ∷ read 2 ∷ write (1 ∷ 2 ∷ 3 ∷ 4 ∷ []) ∷ write (2 ∷ 3 ∷ 4 ∷ []) ∷ write (4 ∷ []) ∷ []) .pipe .ring .held ≡ 4 ∷ [])
+unfolding turn wrap
+readers = (refl, refl, refl)
+
+-- a reader that waits while bytes are held: what is written goes behind them, and it is woken to read
+held-first : writeDecision 1 4 1 2 true ≡ accept (record { actual = 2; used = 3 }) wakes
+held-first = refl
+
+-- ---- flags come before who waits, and numbers that no pipe has before flags
+
+flags-first : (writeDecision 0 4 3 1 true ≡ refuse ecanceled) × (readDecision 0 4 3 1 true ≡ refuse ecanceled) × (writeDecision 2 4 0 1 true ≡ refuse epipe) × (readDecision 0 4 0 1 true ≡ refuse epipe)
+    × (readDecision 2 4 0 1 true ≡ accept (record { actual = 1; used = 1 }) wakes) × (readDecision 0 4 1 1 true ≡ accept (record { actual = 0; used = 0 }) pends) × (writeDecision 5 4 3 1 true ≡ refuse einval)
+flags-first = (refl, refl, refl, refl, refl, refl, refl)
+
+reset-woke : (ends (after full) (resets ∷ []) .writers ≡ []) × (ends (after full) (closes ∷ read 1 ∷ []) .got ≡ 1 ∷ []) × (ends (after full) (closes ∷ []) .called ≡ (1 ∷ 2 ∷ 3 ∷ 4 ∷ []) ∷ [])
+unfolding turn wrap
+reset-woke = (refl, refl, refl)

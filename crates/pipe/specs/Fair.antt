@@ -1,0 +1,65 @@
+-- What holds of a pipe where threads wait, after any events: nobody is overtaken, and nobody waits for ever.
+use mathlib.Core.Path.{_≡_}
+use mathlib.Core.Bool.{Bool, true, false}
+use mathlib.Core.List.{List, [], _∷_, _++_}
+use Prim.Native.Nat.{ℕ, zero, suc, _+_, _≤_, _<_}
+use lib.ListN.{length, take}
+use Rattle.seq.specs.List.{All}
+use Rattle.thread.specs.Code.{epipe, ecanceled}
+use Rattle.store.specs.Store.{refuse, left}
+use Rattle.pipe.specs.Pipe.{Pipe, reset, close}
+use Rattle.pipe.specs.HandOver.{used}
+use Rattle.pipe.specs.Waiting.{Waited, entering, tries, decides-write, decides-read, happens}
+
+abbrev pub joined : List (List ℕ) → List ℕ
+joined [] = []
+joined (l ∷ ls) = l ++ joined ls
+
+-- as many writes, and of each the first bytes: one at least
+abbrev pub Cut : List (List ℕ) → List (List ℕ) → Type 0
+Cut [] [] = Unit {0}
+Cut [] (y ∷ ys) = ⊥
+Cut (x ∷ xs) [] = ⊥
+Cut (x ∷ xs) (y ∷ ys) = ((x ≡ take (length x) y) × (0 < length x)) × Cut xs ys
+
+pub record Fair (c : ℕ) (s : Waited) : Type 0 where
+  pub size : s .pipe .ring .capacity ≡ c
+  pub under : used (s .pipe) ≤ c
+  -- nobody waits at a pipe that is closed or resetting
+  pub live : 0 < length (s .readers) + length (s .writers) → (s .pipe .opened ≡ true) × (s .pipe .resetting ≡ false)
+  -- whoever waits wants something
+  pub asks : All (λ (n : ℕ). 0 < n) (s .readers)
+  pub offers : All (λ (l : List ℕ). 0 < length l) (s .writers)
+  -- a reader waits only if nothing is held; a writer only if there is no room, or writers are being let in
+  pub no-byte : 0 < length (s .readers) → s .pipe .ring .held ≡ []
+  pub no-room : 0 < length (s .writers) → s .letting ≡ false → used (s .pipe) ≡ c
+  -- what came out, then what is held, is what went in, each byte once, in order
+  pub line : s .got ++ s .pipe .ring .held ≡ joined (s .went)
+  -- what went in, then what the writers still offer, are the writes in the order in which they were called, each with the bytes that it was told
+  pub order : Cut (s .went ++ s .writers) (s .called)
+
+-- whoever waited at a pipe that is reset or closed is refused: this is what each would be told if it asked again, whoever waits
+pub record Ended (p : Pipe) : Type 0 where
+  pub reset-write : (n : ℕ) (w : Bool) → decides-write (left (reset p) p) n w ≡ refuse ecanceled
+  pub reset-read : (n : ℕ) (w : Bool) → decides-read (left (reset p) p) n w ≡ refuse ecanceled
+  pub close-write : (n : ℕ) (w : Bool) → decides-write (left (close p) p) n w ≡ refuse epipe
+  pub close-read : (n : ℕ) (w : Bool) → 0 < n → p .ring .held ≡ [] → decides-read (left (close p) p) n w ≡ refuse epipe
+
+-- ---- nobody waits for ever
+
+-- if a writer waits and there is room, the next try lets the first in, with a byte at least
+pub record Enters (s : Waited) (w : List ℕ) (ws : List (List ℕ)) : Type 0 where
+  pub told : ℕ
+  pub some : 0 < told
+  pub few : told ≤ length w
+  pub writers : happens s (tries entering) .writers ≡ ws
+  pub went : happens s (tries entering) .went ≡ s .went ++ take told w ∷ []
+
+-- a whole read: then writers are let in, as often as one waits
+abbrev pub lets : ℕ → Waited → Waited
+lets zero s = s
+lets (suc n) s = lets n (happens s (tries entering))
+
+-- then a writer waits only if there is no room
+abbrev pub Settled : ℕ → Waited → Type 0
+Settled c s = 0 < length (s .writers) → used (s .pipe) ≡ c
