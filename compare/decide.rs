@@ -30,15 +30,22 @@ pub struct Apart {
     pub code: i32,
     /// What Gale answers there, if that is not `code` too; none where its precondition forbids the call.
     pub gale: Option<&'static [i64]>,
+    /// It is no refusal: the numbers are Gale's.
+    pub moves: bool,
 }
 
 impl Apart {
     pub fn outside(row: &'static str, code: i32) -> Self {
-        Apart { row, code, gale: None }
+        Apart { row, code, gale: None, moves: false }
     }
 
     pub fn differs(row: &'static str, gale: &'static [i64], code: i32) -> Self {
-        Apart { row, code, gale: Some(gale) }
+        Apart { row, code, gale: Some(gale), moves: false }
+    }
+
+    /// Another code, and the same numbers.
+    pub fn answers(row: &'static str, gale: &'static [i64], code: i32) -> Self {
+        Apart { row, code, gale: Some(gale), moves: true }
     }
 }
 

@@ -26,16 +26,16 @@ impl Word for u64 {
 /// What ours is to decide.
 fn expected<W: Word>(decide: &Decide<W>, input: &[W]) -> Result<(Decision<W>, Kind), String> {
     let Some(apart) = (decide.apart)(input) else { return Ok(((decide.gale)(input), Kind::Same)) };
-    let refusal = Decision::refusal(apart.code);
-    let Some(codes) = apart.gale else { return Ok((refusal, Kind::Outside(apart.row))) };
+    let Some(codes) = apart.gale else { return Ok((Decision::refusal(apart.code), Kind::Outside(apart.row))) };
     let gale = (decide.gale)(input);
-    if gale == refusal {
-        return Ok((refusal, Kind::Same));
+    let ours = Decision::new(apart.code, if apart.moves { &gale.numbers } else { &[] });
+    if gale == ours {
+        return Ok((ours, Kind::Same));
     }
     if !codes.contains(&gale.code) {
         return Err(format!("{}: Gale decides {gale:?}", apart.row));
     }
-    Ok((refusal, Kind::Differs(apart.row)))
+    Ok((ours, Kind::Differs(apart.row)))
 }
 
 /// Our function, of the same numbers.

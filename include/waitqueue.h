@@ -621,10 +621,12 @@ struct wq_pipe {
 #define WQ_FLAG_OPEN 1u
 #define WQ_FLAG_RESET 2u
 
-/* What a write is to do: store the bytes; hand them to the first reader that waits, and no number changes; wait. */
+/* What a write is to do: store the bytes; the same, and wake the first reader that waits, to read (if the pipe is empty,
+ * hand the bytes to it, and no number changes); wait, behind the writers that wait. */
 enum wq_write { WQ_WRITE_OK = 0, WQ_WRITE_WAKE_READER = 1, WQ_WRITE_PEND = 2 };
 
-/* What a read is to do: take the bytes; take them, and then let the first writer that waits write; wait. */
+/* What a read is to do: take the bytes; take them, and then let the writers that wait write, the first first, until none
+ * waits or there is no room; wait. */
 enum wq_read { WQ_READ_OK = 0, WQ_READ_WAKE_WRITER = 1, WQ_READ_PEND = 2 };
 
 int32_t wq_pipe_init(uint32_t *head, const uint8_t *buf, uint64_t buf_len, uint32_t size);
@@ -643,8 +645,9 @@ int32_t wq_pipe_is_resetting(const uint32_t *head, const uint8_t *buf, uint64_t 
 
 /* On plain numbers: what write and read would do, how many bytes move, and how many the pipe then holds. They are
  * written unless the answer is below 0. Where the pipe would answer WQ_EAGAIN, the answer is to wait. WQ_EINVAL: a size
- * of 0, a number above it, flags above 3, a reader that waits while there are bytes, a writer that waits while there is
- * room. With a reader that waits, request_len is to be at most what that reader asks for. */
+ * of 0, a number above it, flags above 3. Who waits is asked last: if bytes move, somebody that waits on the other side
+ * is to be woken. With a reader that waits at an empty pipe, request_len is to be at most what that reader asks for. A
+ * write while other writers wait is to wait behind them, whatever the answer, unless it is below 0. */
 int32_t wq_pipe_write_decide(uint32_t used, uint32_t size, uint32_t flags, uint32_t request_len, bool has_reader,
                              uint32_t *actual_bytes, uint32_t *new_used); /* enum wq_write; refusals as write */
 int32_t wq_pipe_read_decide(uint32_t used, uint32_t size, uint32_t flags, uint32_t request_len, bool has_writer,

@@ -74,8 +74,8 @@ const FLAGS: Arg = Of(&[0, 1, 2, 3, 4, 5, 6, 7, 255, 256, 257, u32::MAX]);
 const NO_BYTE: &str = "flags above 255, which Gale cannot be told: -22";
 const NO_FLAGS: &str = "flags above 3: Gale decides by the two that it knows, ours -22";
 const MALFORMED: &str = "size 0 or more used than that: Gale decides all the same, ours -22";
-const READER_WAITS: &str = "write_decide, a reader waits while there are bytes: Gale as if none waited, ours -22";
-const WRITER_WAITS: &str = "read_decide, a writer waits while there is room: Gale as if none waited, ours -22";
+const READER_WAITS: &str = "write_decide, a reader waits while bytes are held and some fit: Gale 0, ours 1";
+const WRITER_WAITS: &str = "read_decide, a writer waits while bytes are held and some would fit: Gale 0, ours 1";
 const NO_LENGTH: &str =
     "write_decide and read_decide, length 0: Gale moves no bytes (0, 1), waits (2) or -32, ours -35";
 pub const APART: [&str; 6] = [NO_BYTE, NO_FLAGS, MALFORMED, READER_WAITS, WRITER_WAITS, NO_LENGTH];
@@ -90,18 +90,21 @@ fn malformed(input: &[u32]) -> Option<Apart> {
     }
 }
 
+/// Where bytes move, ours wakes whoever waits on the other side.
 fn write_apart(input: &[u32]) -> Option<Apart> {
-    let [used, _, flags, len, reader] = words(input);
-    let waits = || (reader != 0 && used > 0).then(|| Apart::differs(READER_WAITS, &[0, 2, -32, -140], EINVAL));
-    let no_length = len == 0 && flags == FLAG_OPEN.into();
-    malformed(input).or_else(waits).or_else(|| no_length.then(|| Apart::differs(NO_LENGTH, &[0, 1, 2], ENOMSG)))
+    let [used, size, flags, len, reader] = words(input);
+    let open = flags == FLAG_OPEN.into();
+    let no_length = || (len == 0 && open).then(|| Apart::differs(NO_LENGTH, &[0, 1, 2], ENOMSG));
+    let waits = reader != 0 && used > 0 && used < size && open;
+    malformed(input).or_else(no_length).or_else(|| waits.then(|| Apart::answers(READER_WAITS, &[0], 1)))
 }
 
 fn read_apart(input: &[u32]) -> Option<Apart> {
     let [used, size, flags, len, writer] = words(input);
-    let waits = || (writer != 0 && used < size).then(|| Apart::differs(WRITER_WAITS, &[0, 2, -32, -140], EINVAL));
-    let no_length = len == 0 && flags < FLAG_RESET.into();
-    malformed(input).or_else(waits).or_else(|| no_length.then(|| Apart::differs(NO_LENGTH, &[0, 1, 2, -32], ENOMSG)))
+    let over = flags < FLAG_RESET.into();
+    let no_length = || (len == 0 && over).then(|| Apart::differs(NO_LENGTH, &[0, 1, 2, -32], ENOMSG));
+    let waits = writer != 0 && used > 0 && used < size && over;
+    malformed(input).or_else(no_length).or_else(|| waits.then(|| Apart::answers(WRITER_WAITS, &[0], 1)))
 }
 
 pub const DECIDES: [Decide; 2] = [

@@ -220,10 +220,10 @@ static void write_decisions(void)
 {
     UP_TO(used, SMALL) UP_TO(size, SMALL) UP_TO(flags, ALL + 2) UP_TO(len, SMALL + 1) UP_TO(reader, 1)
     {
-        const uint32_t space = size - used, moves = reader || len < space ? len : space;
+        const uint32_t space = size - used, moves = len < space ? len : space;
         int32_t code = reader ? WQ_WRITE_WAKE_READER : WQ_WRITE_OK;
-        uint32_t actual = moves < size ? moves : size, new_used = reader ? 0 : used + moves;
-        if (size == 0 || used > size || flags > ALL || (reader && used > 0)) {
+        uint32_t actual = moves, new_used = reader && used == 0 ? 0 : used + moves;
+        if (size == 0 || used > size || flags > ALL) {
             code = WQ_EINVAL;
         } else if (flags != OPEN || len == 0) {
             code = flags >= RESET ? WQ_ECANCELED : flags == CLOSED ? WQ_EPIPE : WQ_ENOMSG;
@@ -249,7 +249,7 @@ static void read_decisions(void)
     {
         const uint32_t moves = len < used ? len : used;
         int32_t code = writer ? WQ_READ_WAKE_WRITER : WQ_READ_OK;
-        if (size == 0 || used > size || flags > ALL || (writer && used < size))
+        if (size == 0 || used > size || flags > ALL)
             code = WQ_EINVAL;
         else if (flags >= RESET || len == 0)
             code = flags >= RESET ? WQ_ECANCELED : WQ_ENOMSG;
@@ -284,6 +284,55 @@ static void decide_functions_agree(void)
     }
 }
 
+/* A full pipe of 4, where two writers wait with a byte each. All is read; the first writes; its byte is read while the
+ * second waits still; then that writes. What was put comes out in order. */
+static void two_writers_at_a_full_pipe(void)
+{
+    made(4);
+    EQUAL(wq_k_pipe_write(&m.pipe, (const uint8_t *)"gate", 4), 4);
+    DECIDES(wq_pipe_write_decide(4, 4, OPEN, 1, false, BOTH), WQ_WRITE_PEND, 0, 4);
+
+    DECIDES(wq_pipe_read_decide(4, 4, OPEN, 4, true, BOTH), WQ_READ_WAKE_WRITER, 4, 0);
+    EQUAL(wq_k_pipe_read(&m.pipe, m.got, 4), 4);
+    DECIDES(wq_pipe_write_decide(0, 4, OPEN, 1, false, BOTH), WQ_WRITE_OK, 1, 1);
+    EQUAL(wq_k_pipe_write(&m.pipe, (const uint8_t *)"s", 1), 1);
+
+    DECIDES(wq_pipe_read_decide(1, 4, OPEN, 1, true, BOTH), WQ_READ_WAKE_WRITER, 1, 0);
+    EQUAL(wq_k_pipe_read(&m.pipe, m.got + 4, 1), 1);
+    DECIDES(wq_pipe_write_decide(0, 4, OPEN, 1, false, BOTH), WQ_WRITE_OK, 1, 1);
+    EQUAL(wq_k_pipe_write(&m.pipe, (const uint8_t *)"!", 1), 1);
+    EQUAL(wq_k_pipe_read(&m.pipe, m.got + 5, 1), 1);
+    CHECK(memcmp(m.got, "gates!", 6) == 0);
+}
+
+/* What is written while bytes are held goes behind them; the reader that waits is woken, and reads the held ones first. */
+static void a_reader_that_waits_while_bytes_are_held(void)
+{
+    made(4);
+    EQUAL(wq_k_pipe_write(&m.pipe, (const uint8_t *)"a", 1), 1);
+    DECIDES(wq_pipe_write_decide(1, 4, OPEN, 2, true, BOTH), WQ_WRITE_WAKE_READER, 2, 3);
+    EQUAL(wq_k_pipe_write(&m.pipe, (const uint8_t *)"bc", 2), 2);
+    EQUAL(wq_k_pipe_read(&m.pipe, m.got, 2), 2);
+    CHECK(memcmp(m.got, "ab", 2) == 0);
+    DECIDES(wq_pipe_write_decide(4, 4, OPEN, 2, true, BOTH), WQ_WRITE_PEND, 0, 4);
+}
+
+/* Resetting comes first, then closed, then who waits. */
+static void flags_come_before_who_waits(void)
+{
+    UP_TO(used, SMALL) UP_TO(waits, 1)
+    {
+        for (uint32_t flags = RESET; flags <= ALL; flags++) {
+            DECIDES(wq_pipe_write_decide(used, SMALL, flags, 1, waits, BOTH), WQ_ECANCELED, 0, 0);
+            DECIDES(wq_pipe_read_decide(used, SMALL, flags, 1, waits, BOTH), WQ_ECANCELED, 0, 0);
+        }
+        DECIDES(wq_pipe_write_decide(used, SMALL, CLOSED, 1, waits, BOTH), WQ_EPIPE, 0, 0);
+        DECIDES(wq_pipe_read_decide(0, SMALL, CLOSED, 1, waits, BOTH), WQ_EPIPE, 0, 0);
+    }
+    DECIDES(wq_pipe_read_decide(2, SMALL, CLOSED, 1, true, BOTH), WQ_READ_WAKE_WRITER, 1, 1);
+    DECIDES(wq_pipe_write_decide(SMALL + 1, SMALL, RESET, 1, true, BOTH), WQ_EINVAL, 0, 0);
+}
+
 static const struct test tests[] = {
     TEST(the_log_of_a_barn),
     TEST(a_new_pipe_is_open_and_empty),
@@ -299,6 +348,9 @@ static const struct test tests[] = {
     TEST(write_decisions),
     TEST(read_decisions),
     TEST(decide_functions_agree),
+    TEST(two_writers_at_a_full_pipe),
+    TEST(a_reader_that_waits_while_bytes_are_held),
+    TEST(flags_come_before_who_waits),
 };
 
 const struct group pipe_group = GROUP("pipe", tests);

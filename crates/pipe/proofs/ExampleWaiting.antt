@@ -7,12 +7,11 @@ use Rattle.thread.specs.Code.{einval, epipe, ecanceled}
 use Rattle.store.specs.Store.{refuse, accept}
 use Rattle.ring_buf.specs.Ring.{wrap, turn}
 use Rattle.pipe.specs.Post.{new, goes, wakes, pends, writeDecision, readDecision}
-use Rattle.pipe.specs.Waiting.{Waited, Event, writing, reading, entering, tries, resets, closes, ends}
+use Rattle.pipe.specs.Waiting.{fresh, waited, Waited, Event, writing, reading, entering, tries, resets, closes, ends}
 use Rattle.pipe.specs.Fair.{lets}
-use Rattle.pipe.proofs.Waiters.{waited}
 
 abbrev after : List Event → Waited
-after es = ends (waited (new 4 (0 ∷ 0 ∷ 0 ∷ 0 ∷ [])) [] [] false [] [] []) es
+after es = ends (waited (new 4 (0 ∷ 0 ∷ 0 ∷ 0 ∷ [])) [] [] false fresh) es
 
 abbrev write : List ℕ → Event
 write l = tries (writing l false)
@@ -39,11 +38,11 @@ first = ends (after full) (read 4 ∷ enter ∷ [])
 abbrev second : Waited
 second = ends first (read 1 ∷ enter ∷ [])
 
-one-wrote : (first .got ≡ 1 ∷ 2 ∷ 3 ∷ 4 ∷ []) × (first .pipe .ring .held ≡ 5 ∷ []) × (first .writers ≡ (6 ∷ []) ∷ []) × (first .letting ≡ true)
+one-wrote : (first .books .got ≡ 1 ∷ 2 ∷ 3 ∷ 4 ∷ []) × (first .pipe .ring .held ≡ 5 ∷ []) × (first .writers ≡ (6 ∷ []) ∷ []) × (first .letting ≡ true)
 unfolding turn wrap
 one-wrote = (refl, refl, refl, refl)
 
-both-wrote : (second .got ≡ 1 ∷ 2 ∷ 3 ∷ 4 ∷ 5 ∷ []) × (second .pipe .ring .held ≡ 6 ∷ []) × (second .writers ≡ []) × (second .called ≡ second .went)
+both-wrote : (second .books .got ≡ 1 ∷ 2 ∷ 3 ∷ 4 ∷ 5 ∷ []) × (second .pipe .ring .held ≡ 6 ∷ []) × (second .writers ≡ []) × (second .books .called ≡ second .books .went)
 unfolding turn wrap
 both-wrote = (refl, refl, refl, refl)
 
@@ -57,7 +56,7 @@ unfolding turn wrap
 whole = refl
 
 -- a reader comes before the first writer writes: it waits and is handed that byte; nothing is held, and the second writer is let in all the same
-between : (ends (after full) (read 4 ∷ read 2 ∷ []) .readers ≡ 2 ∷ []) × (ends (after full) (read 4 ∷ read 2 ∷ enter ∷ []) .got ≡ 1 ∷ 2 ∷ 3 ∷ 4 ∷ 5 ∷ [])
+between : (ends (after full) (read 4 ∷ read 2 ∷ []) .readers ≡ 2 ∷ []) × (ends (after full) (read 4 ∷ read 2 ∷ enter ∷ []) .books .got ≡ 1 ∷ 2 ∷ 3 ∷ 4 ∷ 5 ∷ [])
     × (ends (after full) (read 4 ∷ read 2 ∷ enter ∷ []) .letting ≡ true) × (ends (after full) (read 4 ∷ read 2 ∷ enter ∷ enter ∷ []) .pipe .ring .held ≡ 6 ∷ [])
 unfolding turn wrap
 between = (refl, refl, refl, refl)
@@ -69,7 +68,11 @@ behind-them = refl
 
 -- ---- two readers wait, and each gets what it asks for; the rest goes into the pipe
 
-readers : (after (read 1 ∷ read 2 ∷ write (1 ∷ 2 ∷ 3 ∷ 4 ∷ []) ∷ []) .got ≡ 1 ∷ []) × (after (read 1 ∷ read 2 ∷ write (1 ∷ 2 ∷ 3 ∷ 4 ∷ []) ∷ write (2 ∷ 3 ∷ 4 ∷ []) ∷ []) .got ≡ 1 ∷ 2 ∷ 3 ∷ [])
+readers-fed : after (read 1 ∷ read 2 ∷ write (1 ∷ 2 ∷ 3 ∷ 4 ∷ []) ∷ write (2 ∷ 3 ∷ 4 ∷ []) ∷ []) .books .fed ≡ 1 ∷ 2 ∷ []
+unfolding turn wrap
+readers-fed = refl
+
+readers : (after (read 1 ∷ read 2 ∷ write (1 ∷ 2 ∷ 3 ∷ 4 ∷ []) ∷ []) .books .got ≡ 1 ∷ []) × (after (read 1 ∷ read 2 ∷ write (1 ∷ 2 ∷ 3 ∷ 4 ∷ []) ∷ write (2 ∷ 3 ∷ 4 ∷ []) ∷ []) .books .got ≡ 1 ∷ 2 ∷ 3 ∷ [])
     × (after (read 1 ∷ read 2 ∷ write (1 ∷ 2 ∷ 3 ∷ 4 ∷ []) ∷ write (2 ∷ 3 ∷ 4 ∷ []) ∷ write (4 ∷ []) ∷ []) .pipe .ring .held ≡ 4 ∷ [])
 unfolding turn wrap
 readers = (refl, refl, refl)
@@ -84,6 +87,6 @@ flags-first : (writeDecision 0 4 3 1 true ≡ refuse ecanceled) × (readDecision
     × (readDecision 2 4 0 1 true ≡ accept (record { actual = 1; used = 1 }) wakes) × (readDecision 0 4 1 1 true ≡ accept (record { actual = 0; used = 0 }) pends) × (writeDecision 5 4 3 1 true ≡ refuse einval)
 flags-first = (refl, refl, refl, refl, refl, refl, refl)
 
-reset-woke : (ends (after full) (resets ∷ []) .writers ≡ []) × (ends (after full) (closes ∷ read 1 ∷ []) .got ≡ 1 ∷ []) × (ends (after full) (closes ∷ []) .called ≡ (1 ∷ 2 ∷ 3 ∷ 4 ∷ []) ∷ [])
+reset-woke : (ends (after full) (resets ∷ []) .writers ≡ []) × (ends (after full) (closes ∷ read 1 ∷ []) .books .got ≡ 1 ∷ []) × (ends (after full) (closes ∷ []) .books .called ≡ (1 ∷ 2 ∷ 3 ∷ 4 ∷ []) ∷ [])
 unfolding turn wrap
 reset-woke = (refl, refl, refl)

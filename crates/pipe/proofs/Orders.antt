@@ -1,12 +1,12 @@
 -- The books of a pipe where threads wait: what went in, in the order of the writes. Assumes nothing.
-use mathlib.Core.Path.{_≡_, sym, ap, subst, _∙_}
+use mathlib.Core.Path.{_≡_, refl, sym, ap, subst, _∙_}
 use mathlib.Core.List.{List, [], _∷_, _++_, append-assoc, append-nil}
 use Prim.Native.Nat.{ℕ, _≤_, _<_}
 use native.Mathlib.Omega.{arith}
 use lib.ListN.{length, take, drop, take-append-drop, length-take}
 use lib.Seq.{take-all, take-take}
 use Rattle.seq.specs.List.{All}
-use Rattle.pipe.specs.Fair.{joined, Cut}
+use Rattle.pipe.specs.Fair.{joined, Cut, Fed}
 
 -- ---- the line
 
@@ -66,6 +66,23 @@ pub cut-close : (a w b : List (List ℕ)) → Cut (a ++ w) b → Cut (a ++ []) (
 cut-close [] w b e = tt
 cut-close (x ∷ a) w [] e = absurd e
 cut-close (x ∷ a) w (y ∷ b) e = (e .0, cut-close a w b (e .1))
+
+-- ---- the order of the readers
+
+pub fed-begs : (k w b : List ℕ) (n : ℕ) → Fed k w b → Fed k (w ++ n ∷ []) (b ++ n ∷ [])
+fed-begs [] w b n e = ap (λ (z : List ℕ). z ++ n ∷ []) e
+fed-begs (x ∷ k) w [] n e = absurd e
+fed-begs (x ∷ k) w (y ∷ b) n e = (e .0, fed-begs k w b n (e .1))
+
+pub fed-first : (k : List ℕ) (a : ℕ) (w b : List ℕ) (n : ℕ) → 0 < n → n ≤ a → Fed k (a ∷ w) b → Fed (k ++ n ∷ []) w b
+fed-first [] a w b n f g e = subst (Fed (n ∷ []) w) e ((f, g), refl)
+fed-first (x ∷ k) a w [] n f g e = absurd e
+fed-first (x ∷ k) a w (y ∷ b) n f g e = (e .0, fed-first k a w b n f g (e .1))
+
+pub fed-close : (k w b : List ℕ) → Fed k w b → Fed k [] (take (length k) b)
+fed-close [] w b e = refl
+fed-close (x ∷ k) w [] e = absurd e
+fed-close (x ∷ k) w (y ∷ b) e = (e .0, fed-close k w b (e .1))
 
 pub all-snoc : {A : Type 0} (P : A → Type 0) (l : List A) (x : A) → All P l → P x → All P (l ++ x ∷ [])
 all-snoc P [] x a e = (e, tt)

@@ -1,7 +1,7 @@
 -- A read of a pipe where threads wait. Assumes nothing.
 use mathlib.Core.Path.{_≡_, refl, sym, ap, subst, _∙_}
 use mathlib.Core.Bool.{Bool, true, false}
-use mathlib.Core.List.{List, [], _∷_, _++_}
+use mathlib.Core.List.{List, [], _∷_}
 use Prim.Native.Nat.{ℕ, zero, suc, _<_, min}
 use native.Mathlib.Omega.{arith}
 use lib.ListN.{length, length-drop}
@@ -10,26 +10,26 @@ use Rattle.seq.proofs.Order.{clash}
 use Rattle.ring_buf.proofs.Rings.{by-lt}
 use Rattle.pipe.specs.Pipe.{Pipe}
 use Rattle.pipe.specs.HandOver.{used}
-use Rattle.pipe.specs.Waiting.{Waited, reading, tries, took, asked, happens}
+use Rattle.pipe.specs.Waiting.{Books, leaves, waited, Waited, reading, tries, took, asked, happens}
 use Rattle.pipe.specs.Fair.{Fair}
 use Rattle.pipe.proofs.Turns.{read-cancelled, read-broken, drains, takes, read-none, read-waits, read-moves}
-use Rattle.pipe.proofs.Orders.{line-out, all-snoc}
-use Rattle.pipe.proofs.Waiters.{waited, by-flags, carried}
+use Rattle.pipe.proofs.Orders.{line-out, all-snoc, fed-begs}
+use Rattle.pipe.proofs.Waiters.{by-flags, carried}
 
 none-held : (l : List ℕ) → length l ≡ 0 → l ≡ []
 none-held [] e = refl
 none-held (x ∷ l) e = absurd (omega arith)
 
-module _ (c : ℕ) (some : 0 < c) (p : Pipe) (b : Bool) (cs wt : List (List ℕ)) (g : List ℕ) where
+module _ (c : ℕ) (some : 0 < c) (p : Pipe) (b : Bool) (bk : Books) where
   abbrev at : List ℕ → List (List ℕ) → Waited
-  at r w = waited p r w b cs wt g
+  at r w = waited p r w b bk
 
   -- n bytes at most are read
   reads : p .resetting ≡ false → (r : List ℕ) (w : List (List ℕ)) (n : ℕ) (t : Bool) → 0 < n → 0 < used p → (0 < length w → t ≡ true) → Fair c (at r w) → Fair c (took n t (at r w))
   reads e r w n t h k z f =
       let y = drains p e n h k in
       let x = takes p e n h k in
-      subst (Fair c) (sym (λ i. waited (y i) r w t cs wt (g ++ x i)))
+      subst (Fair c) (sym (λ i. waited (y i) r w t (leaves (x i) bk)))
       (record {
         size = f .size;
         under = omega (arith, length-drop (min n (used p)) (p .ring .held));
@@ -38,8 +38,9 @@ module _ (c : ℕ) (some : 0 < c) (p : Pipe) (b : Bool) (cs wt : List (List ℕ)
         offers = f .offers;
         no-byte = λ d. absurd (omega (arith, ap length (f .no-byte d)));
         no-room = λ d y. clash (sym (z d) ∙ y);
-        line = line-out g (p .ring .held) wt (f .line) (min n (used p));
+        line = line-out (bk .got) (p .ring .held) (bk .went) (f .line) (min n (used p));
         order = f .order;
+        turns = f .turns;
       })
 
   -- a reader behind those that wait
@@ -56,6 +57,7 @@ module _ (c : ℕ) (some : 0 < c) (p : Pipe) (b : Bool) (cs wt : List (List ℕ)
         no-room = f .no-room;
         line = f .line;
         order = f .order;
+        turns = fed-begs (bk .fed) r (bk .begged) n (f .turns);
       }
 
   module _ (r : List ℕ) (n : ℕ) (k : Bool) (h : 0 < n) where

@@ -11,13 +11,14 @@ use Rattle.ring_buf.specs.Ring.{append, leave}
 use Rattle.pipe.specs.Pipe.{Pipe, holding, taken}
 use Rattle.pipe.specs.Post.{Moves}
 use Rattle.pipe.specs.HandOver.{used}
-use Rattle.pipe.specs.Waiting.{Waited, Try, tries, wanted, decision, filled, drained, wrote, queued, told, happens}
+use Rattle.pipe.specs.Waiting.{Books, enters, feeds, waited, Waited, Try, tries, wanted, decision, filled, drained, wrote, queued, told, happens}
 use Rattle.pipe.specs.Fair.{Cut, Fair}
 use Rattle.pipe.proofs.Turns.{fills, drains, takes}
-use Rattle.pipe.proofs.Orders.{line-in, line-out, cut-wait, all-snoc}
+use Rattle.pipe.proofs.Orders.{line-in, line-out, cut-wait, all-snoc, fed-first}
 
-abbrev pub waited : Pipe → List ℕ → List (List ℕ) → Bool → List (List ℕ) → List (List ℕ) → List ℕ → Waited
-waited p r w b cs wt g = record { pipe = p; readers = r; writers = w; letting = b; called = cs; went = wt; got = g }
+-- other writes were called
+abbrev pub recalled : List (List ℕ) → Books → Books
+recalled cs k = record { called = cs; went = k .went; got = k .got; begged = k .begged; fed = k .fed }
 
 pub none-wanted : (r : List ℕ) → wanted r [] ≡ 0
 none-wanted [] = refl
@@ -36,20 +37,20 @@ module _ (c : ℕ) (some : 0 < c) where
   pub carried : (s : Waited) (e : Try) {d : Reply Moves} → decision e s ≡ d → Fair c (told e d s) → Fair c (happens s (tries e))
   carried s e x f = subst (λ (d : Reply Moves). Fair c (told e d s)) (sym x) f
 
-  module _ (p : Pipe) (b : Bool) (cs wt : List (List ℕ)) (g : List ℕ) where
+  module _ (p : Pipe) (b : Bool) (bk : Books) where
     abbrev at : List ℕ → List (List ℕ) → Waited
-    at r w = waited p r w b cs wt g
+    at r w = waited p r w b bk
 
     -- ---- an open pipe
 
     module _ (e : p .resetting ≡ false) (o : p .opened ≡ true) where
       module _ (l : List ℕ) (n : ℕ) (k : 0 < n) (h : n ≤ length l) (w w' cs' : List (List ℕ)) (v : All (λ (x : List ℕ). 0 < length x) w') (z : 0 < length w' → b ≡ false → ⊥) where
         -- n bytes of l go into the pipe
-        pub into : Fair c (at [] w) → n ≤ p .ring .capacity - used p → Cut ((wt ++ take n l ∷ []) ++ w') cs' → Fair c (wrote 0 l n w' cs' (at [] w))
+        pub into : Fair c (at [] w) → n ≤ p .ring .capacity - used p → Cut ((bk .went ++ take n l ∷ []) ++ w') cs' → Fair c (wrote 0 l n w' (recalled cs' bk) (at [] w))
         into f m t =
             let q = holding (append (take n l) (p .ring)) p in
             let u : used q ≡ used p + n = length-append (p .ring .held) (take n l) ∙ omega (arith, length-take n l) in
-            subst (λ (y : Pipe). Fair c (waited y [] w' b cs' (wt ++ take n l ∷ []) g)) (sym (fills p o e l n k h m))
+            subst (λ (y : Pipe). Fair c (waited y [] w' b (enters (take n l) (recalled cs' bk)))) (sym (fills p o e l n k h m))
             (record {
               size = f .size;
               under = omega arith;
@@ -58,12 +59,13 @@ module _ (c : ℕ) (some : 0 < c) where
               offers = v;
               no-byte = λ y. absurd (omega arith);
               no-room = λ x y. absurd (z x y);
-              line = line-in g (p .ring .held) wt (f .line) (take n l);
+              line = line-in (bk .got) (p .ring .held) (bk .went) (f .line) (take n l);
               order = t;
+              turns = f .turns;
             })
 
         -- they go to the first reader, which asks for a
-        pub hand : (a : ℕ) (r : List ℕ) → Fair c (at (a ∷ r) w) → n ≤ p .ring .capacity - used p → n ≤ a → Cut ((wt ++ take n l ∷ []) ++ w') cs' → Fair c (wrote 1 l n w' cs' (at (a ∷ r) w))
+        pub hand : (a : ℕ) (r : List ℕ) → Fair c (at (a ∷ r) w) → n ≤ p .ring .capacity - used p → n ≤ a → Cut ((bk .went ++ take n l ∷ []) ++ w') cs' → Fair c (wrote 1 l n w' (recalled cs' bk) (at (a ∷ r) w))
         hand a r f m j t =
             let q = holding (append (take n l) (p .ring)) p in
             let i : used p ≡ 0 = ap length (f .no-byte (omega arith)) in
@@ -71,8 +73,9 @@ module _ (c : ℕ) (some : 0 < c) where
             let x = fills p o e l n k h m in
             let y : drained a (filled l n p) ≡ holding (leave (min a (used q)) (q .ring)) q = ap (drained a) x ∙ drains q e a (omega arith) (omega arith) in
             let d : taken a (filled l n p) ≡ take (min a (used q)) (q .ring .held) = ap (taken a) x ∙ takes q e a (omega arith) (omega arith) in
+            let v' = length-take (min a (used q)) (q .ring .held) in
             let gone : drop (min a (used q)) (q .ring .held) ≡ [] = drop-of-length-le (q .ring .held) {i = min a (used q)} (omega arith) in
-            subst (Fair c) (sym (λ i. waited (y i) r w' b cs' (wt ++ take n l ∷ []) (g ++ d i)))
+            subst (Fair c) (sym (λ i. waited (y i) r w' b (feeds (d i) (enters (take n l) (recalled cs' bk)))))
             (record {
               size = f .size;
               under = omega (arith, ap length gone);
@@ -81,8 +84,9 @@ module _ (c : ℕ) (some : 0 < c) where
               offers = v;
               no-byte = λ d. gone;
               no-room = λ d y. absurd (z d y);
-              line = line-out g (q .ring .held) (wt ++ take n l ∷ []) (line-in g (p .ring .held) wt (f .line) (take n l)) (min a (used q));
+              line = line-out (bk .got) (q .ring .held) (bk .went ++ take n l ∷ []) (line-in (bk .got) (p .ring .held) (bk .went) (f .line) (take n l)) (min a (used q));
               order = t;
+              turns = fed-first (bk .fed) a r (bk .begged) (length (take (min a (used q)) (q .ring .held))) (omega (arith, v')) (omega (arith, v')) (f .turns);
             })
 
       -- a write behind the writers that wait
@@ -98,5 +102,6 @@ module _ (c : ℕ) (some : 0 < c) where
             no-byte = f .no-byte;
             no-room = λ d y. z y;
             line = f .line;
-            order = cut-wait wt w cs l h (f .order);
+            order = cut-wait (bk .went) w (bk .called) l h (f .order);
+            turns = f .turns;
           }

@@ -22,6 +22,12 @@ Cut [] (y ∷ ys) = ⊥
 Cut (x ∷ xs) [] = ⊥
 Cut (x ∷ xs) (y ∷ ys) = ((x ≡ take (length x) y) × (0 < length x)) × Cut xs ys
 
+-- of the reads b, those that were handed bytes, each some and no more than it asked for, and then those that wait, w
+abbrev pub Fed : List ℕ → List ℕ → List ℕ → Type 0
+Fed [] w b = w ≡ b
+Fed (n ∷ ns) w [] = ⊥
+Fed (n ∷ ns) w (a ∷ b) = ((0 < n) × (n ≤ a)) × Fed ns w b
+
 pub record Fair (c : ℕ) (s : Waited) : Type 0 where
   pub size : s .pipe .ring .capacity ≡ c
   pub under : used (s .pipe) ≤ c
@@ -34,9 +40,11 @@ pub record Fair (c : ℕ) (s : Waited) : Type 0 where
   pub no-byte : 0 < length (s .readers) → s .pipe .ring .held ≡ []
   pub no-room : 0 < length (s .writers) → s .letting ≡ false → used (s .pipe) ≡ c
   -- what came out, then what is held, is what went in, each byte once, in order
-  pub line : s .got ++ s .pipe .ring .held ≡ joined (s .went)
+  pub line : s .books .got ++ s .pipe .ring .held ≡ joined (s .books .went)
   -- what went in, then what the writers still offer, are the writes in the order in which they were called, each with the bytes that it was told
-  pub order : Cut (s .went ++ s .writers) (s .called)
+  pub order : Cut (s .books .went ++ s .writers) (s .books .called)
+  -- readers that wait are served in the order in which they came
+  pub turns : Fed (s .books .fed) (s .readers) (s .books .begged)
 
 -- whoever waited at a pipe that is reset or closed is refused: this is what each would be told if it asked again, whoever waits
 pub record Ended (p : Pipe) : Type 0 where
@@ -53,7 +61,7 @@ pub record Enters (s : Waited) (w : List ℕ) (ws : List (List ℕ)) : Type 0 wh
   pub some : 0 < told
   pub few : told ≤ length w
   pub writers : happens s (tries entering) .writers ≡ ws
-  pub went : happens s (tries entering) .went ≡ s .went ++ take told w ∷ []
+  pub went : happens s (tries entering) .books .went ≡ s .books .went ++ take told w ∷ []
 
 -- a whole read: then writers are let in, as often as one waits
 abbrev pub lets : ℕ → Waited → Waited

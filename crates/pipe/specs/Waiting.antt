@@ -10,6 +10,17 @@ use Rattle.pipe.specs.Pipe.{Pipe, write, read, taken, reset, close, clea
 use Rattle.pipe.specs.Post.{Moves, writeDecision, readDecision}
 use Rattle.pipe.specs.HandOver.{used, flags}
 
+-- since the last reset
+pub record Books : Type 0 where
+  -- all writes that were not refused, whole, the first first; and what went in by each of them that waits no more
+  pub called : List (List ℕ)
+  pub went : List (List ℕ)
+  -- all bytes that came out
+  pub got : List ℕ
+  -- how much each read asked for that came to wait, the first first; and how many bytes each of them was handed that waits no more
+  pub begged : List ℕ
+  pub fed : List ℕ
+
 pub record Waited : Type 0 where
   pub pipe : Pipe
   -- how many bytes each reader asks for that waits, and the bytes of each writer that waits: the first to be served first
@@ -17,11 +28,10 @@ pub record Waited : Type 0 where
   pub writers : List (List ℕ)
   -- a read was answered 1, and the writers that wait are being let in
   pub letting : Bool
-  -- since the last reset: all writes that were not refused, whole, the first first
-  pub called : List (List ℕ)
-  -- what went in by each of them that waits no more; and all bytes that came out
-  pub went : List (List ℕ)
-  pub got : List ℕ
+  pub books : Books
+
+abbrev pub waited : Pipe → List ℕ → List (List ℕ) → Bool → Books → Waited
+waited p r w x b = record { pipe = p; readers = r; writers = w; letting = x; books = b }
 
 -- what is decided: a write and a read, whose caller waits if need be, or does not; and the first writer that waits tries again
 pub data Try : Type 0 where
@@ -62,46 +72,54 @@ filled l n p = left (write (take n l) p) p
 abbrev pub drained : ℕ → Pipe → Pipe
 drained n p = left (read n p) p
 
+-- a write is called; by the first that is not over x goes in; x comes out; a read comes to wait; the first that waits is handed x
+abbrev pub calls : List ℕ → Books → Books
+calls l b = record { called = b .called ++ l ∷ []; went = b .went; got = b .got; begged = b .begged; fed = b .fed }
+
+abbrev pub enters : List ℕ → Books → Books
+enters x b = record { called = b .called; went = b .went ++ x ∷ []; got = b .got; begged = b .begged; fed = b .fed }
+
+abbrev pub leaves : List ℕ → Books → Books
+leaves x b = record { called = b .called; went = b .went; got = b .got ++ x; begged = b .begged; fed = b .fed }
+
+abbrev pub begs : ℕ → Books → Books
+begs n b = record { called = b .called; went = b .went; got = b .got; begged = b .begged ++ n ∷ []; fed = b .fed }
+
+abbrev pub feeds : List ℕ → Books → Books
+feeds x b = record { called = b .called; went = b .went; got = b .got ++ x; begged = b .begged; fed = b .fed ++ length x ∷ [] }
+
+-- the first reader that waits reads
+abbrev pub fed-first : List ℕ → Pipe → List (List ℕ) → Bool → Books → Waited
+fed-first readers p w x b = waited (drained (getD readers 0 0) p) (drop 1 readers) w x (feeds (taken (getD readers 0 0) p) b)
+
 -- the writer of l is told n. Answer 0: its bytes go into the pipe. 1: so they do, and then the first reader that waits reads: if nothing was held, it is
--- handed these bytes, and nothing is held then
-abbrev pub wrote : ℕ → List ℕ → ℕ → List (List ℕ) → List (List ℕ) → Waited → Waited
-wrote zero l n writers called s =
-    record { pipe = filled l n (s .pipe); readers = s .readers; writers = writers; letting = s .letting; called = called; went = s .went ++ take n l ∷ []; got = s .got }
-wrote (suc c) l n writers called s =
-    record {
-      pipe = drained (getD (s .readers) 0 0) (filled l n (s .pipe));
-      readers = drop 1 (s .readers);
-      writers = writers;
-      letting = s .letting;
-      called = called;
-      went = s .went ++ take n l ∷ [];
-      got = s .got ++ taken (getD (s .readers) 0 0) (filled l n (s .pipe));
-    }
+-- handed these bytes, and nothing is held then. w: who waits then
+abbrev pub wrote : ℕ → List ℕ → ℕ → List (List ℕ) → Books → Waited → Waited
+wrote zero l n w b s = waited (filled l n (s .pipe)) (s .readers) w (s .letting) (enters (take n l) b)
+wrote (suc c) l n w b s = fed-first (s .readers) (filled l n (s .pipe)) w (s .letting) (enters (take n l) b)
 
 -- the writer waits behind those that wait, unless it does not wait
 abbrev pub queued : Bool → List ℕ → Waited → Waited
 queued true l s = s
-queued false l s =
-    record { pipe = s .pipe; readers = s .readers; writers = s .writers ++ l ∷ []; letting = s .letting; called = s .called ++ l ∷ []; went = s .went; got = s .got }
+queued false l s = waited (s .pipe) (s .readers) (s .writers ++ l ∷ []) (s .letting) (calls l (s .books))
 
 abbrev pub put : Bool → ℕ → List ℕ → ℕ → Waited → Waited
-put k zero l n s = wrote 0 l n (s .writers) (s .called ++ l ∷ []) s
-put k (suc zero) l n s = wrote 1 l n (s .writers) (s .called ++ l ∷ []) s
+put k zero l n s = wrote 0 l n (s .writers) (calls l (s .books)) s
+put k (suc zero) l n s = wrote 1 l n (s .writers) (calls l (s .books)) s
 put k (suc (suc c)) l n s = queued k l s
 
 -- the reader is told n; whether writers are to be let in
 abbrev pub took : ℕ → Bool → Waited → Waited
-took n x s =
-    record { pipe = drained n (s .pipe); readers = s .readers; writers = s .writers; letting = x; called = s .called; went = s .went; got = s .got ++ taken n (s .pipe) }
+took n x s = waited (drained n (s .pipe)) (s .readers) (s .writers) x (leaves (taken n (s .pipe)) (s .books))
 
+-- the reader waits behind those that wait, unless it does not wait
 abbrev pub asked : Bool → ℕ → Waited → Waited
 asked true n s = s
-asked false n s =
-    record { pipe = s .pipe; readers = s .readers ++ n ∷ []; writers = s .writers; letting = s .letting; called = s .called; went = s .went; got = s .got }
+asked false n s = waited (s .pipe) (s .readers ++ n ∷ []) (s .writers) (s .letting) (begs n (s .books))
 
 -- no writer is let in any more
 abbrev pub settled : Waited → Waited
-settled s = record { pipe = s .pipe; readers = s .readers; writers = s .writers; letting = false; called = s .called; went = s .went; got = s .got }
+settled s = waited (s .pipe) (s .readers) (s .writers) false (s .books)
 
 -- what the answer c with n bytes tells the caller to do
 abbrev pub done : Try → ℕ → ℕ → Waited → Waited
@@ -110,8 +128,8 @@ done (writing l k) c n s = cond (any (s .writers)) (queued k l s) (put k c l n s
 done (reading m k) zero n s = took m (s .letting) s
 done (reading m k) (suc zero) n s = took m true s
 done (reading m k) (suc (suc c)) n s = asked k m s
-done entering zero n s = wrote 0 (getD (s .writers) 0 []) n (drop 1 (s .writers)) (s .called) s
-done entering (suc zero) n s = wrote 1 (getD (s .writers) 0 []) n (drop 1 (s .writers)) (s .called) s
+done entering zero n s = wrote 0 (getD (s .writers) 0 []) n (drop 1 (s .writers)) (s .books) s
+done entering (suc zero) n s = wrote 1 (getD (s .writers) 0 []) n (drop 1 (s .writers)) (s .books) s
 done entering (suc (suc c)) n s = settled s
 
 -- a refusal: nothing; no writer waits any more
@@ -125,18 +143,20 @@ told e (refuse c) s = declined e s
 told e (accept m (pos c)) s = done e c (m .actual) s
 told e (accept m (negsuc c)) s = declined e s
 
--- nobody waits any more: each that waited was refused
-abbrev pub emptied : Pipe → List (List ℕ) → List (List ℕ) → List ℕ → Waited
-emptied p called went got = record { pipe = p; readers = []; writers = []; letting = false; called = called; went = went; got = got }
+abbrev pub fresh : Books
+fresh = record { called = []; went = []; got = []; begged = []; fed = [] }
+
+-- whoever waited was refused, and does not count
+abbrev pub closed : Books → Books
+closed b = record { called = take (length (b .went)) (b .called); went = b .went; got = b .got; begged = take (length (b .fed)) (b .begged); fed = b .fed }
 
 abbrev pub happens : Waited → Event → Waited
 happens s (tries e) = told e (decision e s) s
--- the books begin anew
-happens s resets = emptied (left (reset (s .pipe)) (s .pipe)) [] [] []
--- the writes that waited do not count
-happens s closes = emptied (left (close (s .pipe)) (s .pipe)) (take (length (s .went)) (s .called)) (s .went) (s .got)
-happens s clears =
-    record { pipe = left (clearReset (s .pipe)) (s .pipe); readers = s .readers; writers = s .writers; letting = s .letting; called = s .called; went = s .went; got = s .got }
+-- nobody waits any more; the books begin anew
+happens s resets = waited (left (reset (s .pipe)) (s .pipe)) [] [] false fresh
+-- nobody waits any more
+happens s closes = waited (left (close (s .pipe)) (s .pipe)) [] [] false (closed (s .books))
+happens s clears = waited (left (clearReset (s .pipe)) (s .pipe)) (s .readers) (s .writers) (s .letting) (s .books)
 
 abbrev pub ends : Waited → List Event → Waited
 ends s [] = s
