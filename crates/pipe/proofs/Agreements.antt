@@ -34,10 +34,12 @@ flag-few false true = omega arith
 flag-few false false = omega arith
 
 -- of any verdict
-agree : (p : Pipe) (n m : ℕ) (f : ℕ → ℕ) (q : ℕ → Pipe) → ((k : ℕ) → k ≤ n → f k ≡ used (q k)) → (v : Verdict) → Within n m v → Agree p (decided (used p) goes f v) (done q v)
+agree : (p : Pipe) (n m : ℕ) (f : ℕ → ℕ) (q : ℕ → Pipe) → ((k : ℕ) → k ≤ n → f k ≡ used (q k)) → (v : Verdict) → Within n m v
+    → Agree p (decided (used p) goes f v) (done q v)
 agree p n m f q h (never c) w = refuses c
 agree p n m f q h later w = waits
-agree p n m f q h (move k) w = subst (λ (u : ℕ). Agree p (accept (record { actual = k; used = u }) goes) (accept (q k) (pos k))) (sym (h k (w .1 .0))) (moves k (q k))
+agree p n m f q h (move k) w =
+    subst (λ (u : ℕ). Agree p (accept (record { actual = k; used = u }) goes) (accept (q k) (pos k))) (sym (h k (w .1 .0))) (moves k (q k))
 
 module _ (p : Pipe) (some : 0 < p .ring .capacity) (under : used p ≤ p .ring .capacity) where
   pub fits : proper (used p) (p .ring .capacity) (flags p) ≡ true
@@ -55,7 +57,8 @@ module _ (p : Pipe) (some : 0 < p .ring .capacity) (under : used p ≤ p .ring .
       let q : ℕ → Pipe = λ k. holding (append (take k l) (p .ring)) p in
       let h : (k : ℕ) → k ≤ length l → used p + k ≡ used (q k) = λ k m. sym (length-append (p .ring .held) (take k l) ∙ omega (arith, length-take k l)) in
       subst (λ (d : Reply Moves). Agree p d (write l p)) (sym (write-is (used p) (p .ring .capacity) (flags p) (length l) false fits (write-same (length l))))
-      (agree p (length l) (p .ring .capacity - used p) (λ k. used p + k) q h (toWrite (length l) p) (write-within (used p) (p .ring .capacity) (p .opened) (p .resetting) (length l)))
+      (agree p (length l) (p .ring .capacity - used p) (λ k. used p + k) q h (toWrite (length l) p)
+      (write-within (used p) (p .ring .capacity) (p .opened) (p .resetting) (length l)))
 
   pub read-agrees : (n : ℕ) → Agree p (readOf n p) (read n p)
   read-agrees n =
@@ -76,7 +79,8 @@ module _ (u s f n : ℕ) where
   by-proper false g h v = refused einval
 
   module _ (t : ℕ → ℕ) (a : ℤ) (m : Moves) (r : ℤ) where
-    fine : (x : Bool) (b : ℕ) (v : Verdict) → Within n b v → (u ≤ s → (k : ℕ) → k ≤ b → t k ≤ s) → proper u s f ≡ x → cond x (decided u a t v) (refuse einval) ≡ accept m r → proper (m .used) s f ≡ true
+    fine : (x : Bool) (b : ℕ) (v : Verdict) → Within n b v → (u ≤ s → (k : ℕ) → k ≤ b → t k ≤ s) → proper u s f ≡ x
+        → cond x (decided u a t v) (refuse einval) ≡ accept m r → proper (m .used) s f ≡ true
     fine false b v w h p e = absurd (let z : _≡_ {A = ℕ} 0 1 = cc in omega arith)
     fine true b (never c) w h p e = absurd (let z : _≡_ {A = ℕ} 0 1 = cc in omega arith)
     fine true b later w h p e = let z : record { actual = 0; used = u } ≡ m = cc in ap (λ (x : Moves). proper (x .used) s f) (sym z) ∙ p
@@ -99,7 +103,9 @@ module _ (u s f n : ℕ) where
         reader = by-proper (proper u s f) (λ k. u + k) (behind true u) (writes u s (isOpen f) (isResetting f) n);
         writer = by-proper (proper u s f) (λ k. u - k) (λ k. u - k) (reads u (isOpen f) (isResetting f) n);
         after-write =
-            λ w m r e. fine (behind w u) (cond w wakes goes) m r (proper u s f) (s - u) (writes u s (isOpen f) (isResetting f) n) (write-within u s (isOpen f) (isResetting f) n) (behind-fits w) refl e;
+            λ w m r e. fine (behind w u) (cond w wakes goes) m r (proper u s f) (s - u) (writes u s (isOpen f) (isResetting f) n)
+            (write-within u s (isOpen f) (isResetting f) n) (behind-fits w) refl e;
         after-read =
-            λ w m r e. fine (λ k. u - k) (cond w wakes goes) m r (proper u s f) u (reads u (isOpen f) (isResetting f) n) (read-within u (isOpen f) (isResetting f) n) (λ h k g. omega arith) refl e;
+            λ w m r e. fine (λ k. u - k) (cond w wakes goes) m r (proper u s f) u (reads u (isOpen f) (isResetting f) n)
+            (read-within u (isOpen f) (isResetting f) n) (λ h k g. omega arith) refl e;
       }

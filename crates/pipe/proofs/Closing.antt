@@ -44,9 +44,12 @@ nothing-sent clears p e = refl
 
 closed-ran : {p₀ : Pipe} → p₀ .opened ≡ false → {ss : List (Step Call)} {p : Pipe} → Ran does gives p₀ ss p → Closed ss p
 closed-ran e fresh = record { stays = e; unwritten = tt }
-closed-ran e (ran {s = p} {k} o o' x f) = let c = closed-ran e x in record { stays = still k p (c .stays); unwritten = (nothing-sent k p (c .stays), c .unwritten) }
+closed-ran e (ran {s = p} {k} o o' x f) =
+    let c = closed-ran e x in
+    record { stays = still k p (c .stays); unwritten = (nothing-sent k p (c .stays), c .unwritten) }
 
-pub closed : {h₀ b₀ : List ℕ} → formed h₀ b₀ ≡ true → object h₀ b₀ .opened ≡ false → {ss : List (Step Call)} {h b : List ℕ} → Made layout does gives h₀ b₀ ss h b → Closed ss (object h b)
+pub closed : {h₀ b₀ : List ℕ} → formed h₀ b₀ ≡ true → object h₀ b₀ .opened ≡ false → {ss : List (Step Call)} {h b : List ℕ}
+    → Made layout does gives h₀ b₀ ss h b → Closed ss (object h b)
 closed f e m = closed-ran e (runs layout does gives f m .1)
 
 pub readable : (n : ℕ) (p : Pipe) → p .resetting ≡ false → 0 < n → 0 < length (p .ring .held) → Readable n p
@@ -67,19 +70,29 @@ module _ (p : Pipe) (e : p .resetting ≡ true) (z : p .ring .held ≡ []) where
   read-void n = rw e
 
   void : (k : Call) → (Ends k → ⊥) → (left (does k p) p .resetting ≡ true) × ((left (does k p) p .ring .held ≡ []) × cancelled k (answer (does k p)))
-  void (writes l) f = (ap (λ (y : Reply Pipe). left y p .resetting) (write-void l) ∙ e, (ap (λ (y : Reply Pipe). left y p .ring .held) (write-void l) ∙ z, ap answer (write-void l)))
-  void (reads n) f = (ap (λ (y : Reply Pipe). left y p .resetting) (read-void n) ∙ e, (ap (λ (y : Reply Pipe). left y p .ring .held) (read-void n) ∙ z, ap answer (read-void n)))
+  void (writes l) f = (
+    ap (λ (y : Reply Pipe). left y p .resetting) (write-void l)
+        ∙ e,
+    (ap (λ (y : Reply Pipe). left y p .ring .held) (write-void l) ∙ z, ap answer (write-void l)),
+  )
+  void (reads n) f = (
+    ap (λ (y : Reply Pipe). left y p .resetting) (read-void n)
+        ∙ e,
+    (ap (λ (y : Reply Pipe). left y p .ring .held) (read-void n) ∙ z, ap answer (read-void n)),
+  )
   void resets f = (refl, (refl, tt))
   void closes f = absurd (f tt)
   void clears f = absurd (f tt)
 
-cancelled-ran : {p₀ : Pipe} → p₀ .resetting ≡ true → p₀ .ring .held ≡ [] → {ss : List (Step Call)} {p : Pipe} → Ran does gives p₀ ss p → All (λ (s : Step Call). Ends (s .call) → ⊥) ss → Cancelled ss p
+cancelled-ran : {p₀ : Pipe} → p₀ .resetting ≡ true → p₀ .ring .held ≡ [] → {ss : List (Step Call)} {p : Pipe} → Ran does gives p₀ ss p
+    → All (λ (s : Step Call). Ends (s .call) → ⊥) ss → Cancelled ss p
 cancelled-ran e z fresh n = record { stays = e; empty = z; cancelled = tt }
 cancelled-ran e z (ran {s = p} {k} o o' x f) n =
     let c = cancelled-ran e z x (n .1) in
     let v = void p (c .stays) (c .empty) k (n .0) in
     record { stays = v .0; empty = v .1 .0; cancelled = (v .1 .1, c .cancelled) }
 
-pub cancels : {h₀ b₀ : List ℕ} → formed h₀ b₀ ≡ true → object h₀ b₀ .resetting ≡ true → object h₀ b₀ .ring .held ≡ [] → {ss : List (Step Call)} {h b : List ℕ} → Made layout does gives h₀ b₀ ss h b
+pub cancels : {h₀ b₀ : List ℕ} → formed h₀ b₀ ≡ true → object h₀ b₀ .resetting ≡ true → object h₀ b₀ .ring .held ≡ [] → {ss : List (Step Call)} {h b : List ℕ}
+    → Made layout does gives h₀ b₀ ss h b
     → All (λ (s : Step Call). Ends (s .call) → ⊥) ss → Cancelled ss (object h b)
 cancels f e z m n = cancelled-ran e z (runs layout does gives f m .1) n

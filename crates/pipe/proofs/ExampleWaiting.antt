@@ -84,7 +84,8 @@ held-first = refl
 -- ---- flags come before who waits, and numbers that no pipe has before flags
 
 flags-first : (writeDecision 0 4 3 1 true ≡ refuse ecanceled) × (readDecision 0 4 3 1 true ≡ refuse ecanceled) × (writeDecision 2 4 0 1 true ≡ refuse epipe) × (readDecision 0 4 0 1 true ≡ refuse epipe)
-    × (readDecision 2 4 0 1 true ≡ accept (record { actual = 1; used = 1 }) wakes) × (readDecision 0 4 1 1 true ≡ accept (record { actual = 0; used = 0 }) pends) × (writeDecision 5 4 3 1 true ≡ refuse einval)
+    × (readDecision 2 4 0 1 true ≡ accept (record { actual = 1; used = 1 }) wakes) × (readDecision 0 4 1 1 true ≡ accept (record { actual = 0; used = 0 })
+    pends) × (writeDecision 5 4 3 1 true ≡ refuse einval)
 flags-first = (refl, refl, refl, refl, refl, refl, refl)
 
 reset-woke : (ends (after full) (resets ∷ []) .writers ≡ []) × (ends (after full) (closes ∷ read 1 ∷ []) .books .got ≡ 1 ∷ []) × (ends (after full) (closes ∷ []) .books .called ≡ (1 ∷ 2 ∷ 3 ∷ 4 ∷ []) ∷ [])

@@ -16,7 +16,8 @@ use Rattle.pipe.specs.HandOver.{used, flags, HandsOver, Behind, MakesRoo
 use Rattle.pipe.proofs.Verdicts.{is-proper, write-is, read-is}
 use Rattle.pipe.proofs.Agreements.{flag-open, flag-resetting, flag-few, fits, write-same, read-same}
 
-pub hands-over : (l : List ℕ) (n : ℕ) (p : Pipe) → p .opened ≡ true → p .resetting ≡ false → p .ring .held ≡ [] → 0 < p .ring .capacity → 0 < length l → length l ≤ n → HandsOver l n p
+pub hands-over : (l : List ℕ) (n : ℕ) (p : Pipe) → p .opened ≡ true → p .resetting ≡ false → p .ring .held ≡ [] → 0 < p .ring .capacity → 0 < length l
+    → length l ≤ n → HandsOver l n p
 hands-over l n p o r z some f g =
     let c = p .ring .capacity in
     let k = min (length l) c in
@@ -57,7 +58,8 @@ module _ (l : List ℕ) (p : Pipe) (o : p .opened ≡ true) (r : p .resetting �
       record {
         after = q;
         decided =
-            write-is (used p) (p .ring .capacity) (flags p) (length l) true (fits p (omega arith) (omega arith)) (write-same p (omega arith) (omega arith) (length l) ∙ to-move)
+            write-is (used p) (p .ring .capacity) (flags p) (length l) true (fits p (omega arith) (omega arith))
+            (write-same p (omega arith) (omega arith) (length l) ∙ to-move)
             ∙ ap (λ (j : ℕ). accept (record { actual = went; used = j }) wakes) (rw (ne-eqb (used p) 0 (λ y. omega arith)) (sym u));
         write = goes-in;
         held = refl;
@@ -67,7 +69,8 @@ module _ (l : List ℕ) (p : Pipe) (o : p .opened ≡ true) (r : p .resetting �
             ap (λ (v : Verdict). take (moved v) (q .ring .held)) x ∙ take-append-le n (p .ring .held) (take went l) m;
       }
 
-pub makes-room : (n : ℕ) (l : List ℕ) (p : Pipe) → p .opened ≡ true → p .resetting ≡ false → used p ≤ p .ring .capacity → 0 < used p → 0 < n → 0 < length l → MakesRoom n l p
+pub makes-room : (n : ℕ) (l : List ℕ) (p : Pipe) → p .opened ≡ true → p .resetting ≡ false → used p ≤ p .ring .capacity → 0 < used p → 0 < n → 0 < length l
+    → MakesRoom n l p
 makes-room n l p o r z some f g =
     let k = min n (used p) in
     let q = holding (leave k (p .ring)) p in

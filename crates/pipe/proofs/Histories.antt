@@ -37,13 +37,16 @@ module _ (n : ℕ) (ss : List (Step Call)) (p : Pipe) (h : Holds n ss p) where
   kept : (got ss ++ []) ++ p .ring .held ≡ line ss ++ []
   kept = (λ i. append-nil (got ss) i ++ p .ring .held) ∙ h .order ∙ sym (append-nil (line ss))
 
-  wrote : (l o : List ℕ) (v : Verdict) → Within (length l) (p .ring .capacity - length (p .ring .held)) v → let y = done (λ k. holding (append (take k l) (p .ring)) p) v in Holds n (step (writes l) (answer y) o ∷ ss) (left y p)
+  wrote : (l o : List ℕ) (v : Verdict) → Within (length l) (p .ring .capacity - length (p .ring .held)) v
+      → let y = done (λ k. holding (append (take k l) (p .ring)) p) v in Holds n (step (writes l) (answer y) o ∷ ss) (left y p)
   wrote l o (never (pos c)) w = absurd w
   wrote l o (never (negsuc c)) w = record { order = kept; size = h .size; opened = h .opened; resetting = h .resetting }
   wrote l o later w = record { order = kept; size = h .size; opened = h .opened; resetting = h .resetting }
   wrote l o (move k) w =
       record {
-        order = (λ i. append-nil (got ss) i ++ (p .ring .held ++ take k l)) ∙ sym (append-assoc (got ss) (p .ring .held) (take k l)) ∙ ap (λ (x : List ℕ). x ++ take k l) (h .order);
+        order =
+            (λ i. append-nil (got ss) i ++ (p .ring .held ++ take k l)) ∙ sym (append-assoc (got ss) (p .ring .held) (take k l)) ∙ ap
+            (λ (x : List ℕ). x ++ take k l) (h .order);
         size = h .size;
         opened = h .opened;
         resetting = h .resetting;
@@ -53,7 +56,8 @@ module _ (n : ℕ) (ss : List (Step Call)) (p : Pipe) (h : Holds n ss p) where
   stood : (k : ℕ) (o o' : List ℕ) → k ≤ length (p .ring .held) → Filled (take k (p .ring .held)) o o' → take k o' ≡ take k (p .ring .held)
   stood k o o' f e = ap (take k) e ∙ take-at (take k (p .ring .held)) (drop (length (take k (p .ring .held))) o) k (length-take-le k (p .ring .held) f)
 
-  took : (m : ℕ) (o o' : List ℕ) (v : Verdict) → Within m (length (p .ring .held)) v → Filled (take (moved v) (p .ring .held)) o o' → let y = done (λ k. holding (leave k (p .ring)) p) v in Holds n (step (reads m) (answer y) o' ∷ ss) (left y p)
+  took : (m : ℕ) (o o' : List ℕ) (v : Verdict) → Within m (length (p .ring .held)) v → Filled (take (moved v) (p .ring .held)) o o'
+      → let y = done (λ k. holding (leave k (p .ring)) p) v in Holds n (step (reads m) (answer y) o' ∷ ss) (left y p)
   took m o o' (never (pos c)) w f = absurd w
   took m o o' (never (negsuc c)) w f = record { order = kept; size = h .size; opened = h .opened; resetting = h .resetting }
   took m o o' later w f = record { order = kept; size = h .size; opened = h .opened; resetting = h .resetting }

@@ -11,6 +11,7 @@ pub mod Waiters
 pub mod Writing
 pub mod Reading
 pub mod Fairness
+pub mod Progress
 pub mod Example
 pub mod ExampleWaiting
 pub mod Upstream

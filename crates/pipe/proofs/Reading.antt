@@ -25,7 +25,8 @@ module _ (c : ℕ) (some : 0 < c) (p : Pipe) (b : Bool) (bk : Books) where
   at r w = waited p r w b bk
 
   -- n bytes at most are read
-  reads : p .resetting ≡ false → (r : List ℕ) (w : List (List ℕ)) (n : ℕ) (t : Bool) → 0 < n → 0 < used p → (0 < length w → t ≡ true) → Fair c (at r w) → Fair c (took n t (at r w))
+  reads : p .resetting ≡ false → (r : List ℕ) (w : List (List ℕ)) (n : ℕ) (t : Bool) → 0 < n → 0 < used p → (0 < length w → t ≡ true) → Fair c (at r w)
+      → Fair c (took n t (at r w))
   reads e r w n t h k z f =
       let y = drains p e n h k in
       let x = takes p e n h k in
@@ -44,7 +45,8 @@ module _ (c : ℕ) (some : 0 < c) (p : Pipe) (b : Bool) (bk : Books) where
       })
 
   -- a reader behind those that wait
-  begs : p .resetting ≡ false → p .opened ≡ true → (r : List ℕ) (w : List (List ℕ)) (n : ℕ) (k : Bool) → 0 < n → used p ≡ 0 → Fair c (at r w) → Fair c (asked k n (at r w))
+  begs : p .resetting ≡ false → p .opened ≡ true → (r : List ℕ) (w : List (List ℕ)) (n : ℕ) (k : Bool) → 0 < n → used p ≡ 0 → Fair c (at r w)
+      → Fair c (asked k n (at r w))
   begs e o r w n true h z f = f
   begs e o r w n false h z f =
       record {
@@ -62,8 +64,10 @@ module _ (c : ℕ) (some : 0 < c) (p : Pipe) (b : Bool) (bk : Books) where
 
   module _ (r : List ℕ) (n : ℕ) (k : Bool) (h : 0 < n) where
     some-held : p .resetting ≡ false → 0 < used p → (w : List (List ℕ)) → Fair c (at r w) → Fair c (happens (at r w) (tries (reading n k)))
-    some-held e u [] f = carried c some (at r []) (reading n k) (read-moves p e (omega arith) (omega arith) n false h u) (reads e r [] n b h u (λ d. absurd (omega arith)) f)
-    some-held e u (x ∷ w) f = carried c some (at r (x ∷ w)) (reading n k) (read-moves p e (omega arith) (omega arith) n true h u) (reads e r (x ∷ w) n true h u (λ d. refl) f)
+    some-held e u [] f =
+        carried c some (at r []) (reading n k) (read-moves p e (omega arith) (omega arith) n false h u) (reads e r [] n b h u (λ d. absurd (omega arith)) f)
+    some-held e u (x ∷ w) f =
+        carried c some (at r (x ∷ w)) (reading n k) (read-moves p e (omega arith) (omega arith) n true h u) (reads e r (x ∷ w) n true h u (λ d. refl) f)
 
     none-there : used p ≡ 0 → (w : List (List ℕ)) → Fair c (at r w) → Fair c (happens (at r w) (tries (reading n k)))
     none-there z w f =
@@ -77,4 +81,5 @@ module _ (c : ℕ) (some : 0 < c) (p : Pipe) (b : Bool) (bk : Books) where
 
   pub read-fair : (r : List ℕ) (w : List (List ℕ)) (n : ℕ) (k : Bool) → Fair c (at r w) → Fair c (happens (at r w) (tries (reading n k)))
   read-fair r w n k f =
-      by-flags p (λ e. carried c some (at r w) (reading n k) (read-cancelled p (omega arith) (omega arith) n (any w) e) f) (λ e o. read-on e r w n k f) (λ e o. read-on e r w n k f)
+      by-flags p (λ e. carried c some (at r w) (reading n k) (read-cancelled p (omega arith) (omega arith) n (any w) e) f) (λ e o. read-on e r w n k f)
+      (λ e o. read-on e r w n k f)

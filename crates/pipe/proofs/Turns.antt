@@ -89,7 +89,8 @@ module _ (p : Pipe) (o : p .opened ≡ true) (r : p .resetting ≡ false) where
   fills l n f g h =
       let t : length (take n l) ≡ n = length-take n l ∙ omega arith in
       let m : min (length (take n l)) (size - used p) ≡ n = omega arith in
-      ap (λ (v : Verdict). left (done (λ j. holding (append (take j (take n l)) (p .ring)) p) v) p) (writes-moves (length (take n l)) (omega arith) (omega arith) ∙ ap move m)
+      ap (λ (v : Verdict). left (done (λ j. holding (append (take j (take n l)) (p .ring)) p) v) p)
+      (writes-moves (length (take n l)) (omega arith) (omega arith) ∙ ap move m)
       ∙ ap (λ (x : List ℕ). holding (append x (p .ring)) p) (take-all n (take n l) (omega arith))
 
   module _ (some : 0 < size) (under : used p ≤ size) (n : ℕ) (w : Bool) where

@@ -24,7 +24,8 @@ pub none-wanted : (r : List ℕ) → wanted r [] ≡ 0
 none-wanted [] = refl
 none-wanted (n ∷ r) = omega arith
 
-pub by-flags : (p : Pipe) {A : Type 0} → (p .resetting ≡ true → A) → (p .resetting ≡ false → p .opened ≡ false → A) → (p .resetting ≡ false → p .opened ≡ true → A) → A
+pub by-flags : (p : Pipe) {A : Type 0} → (p .resetting ≡ true → A) → (p .resetting ≡ false → p .opened ≡ false → A)
+    → (p .resetting ≡ false → p .opened ≡ true → A) → A
 by-flags p {A} x y z = go (p .resetting) (p .opened) refl refl
   where
     go : (r o : Bool) → p .resetting ≡ r → p .opened ≡ o → A
@@ -44,9 +45,11 @@ module _ (c : ℕ) (some : 0 < c) where
     -- ---- an open pipe
 
     module _ (e : p .resetting ≡ false) (o : p .opened ≡ true) where
-      module _ (l : List ℕ) (n : ℕ) (k : 0 < n) (h : n ≤ length l) (w w' cs' : List (List ℕ)) (v : All (λ (x : List ℕ). 0 < length x) w') (z : 0 < length w' → b ≡ false → ⊥) where
+      module _ (l : List ℕ) (n : ℕ) (k : 0 < n) (h : n ≤ length l) (w w' cs' : List (List ℕ)) (v : All (λ (x : List ℕ). 0 < length x) w')
+          (z : 0 < length w' → b ≡ false → ⊥) where
         -- n bytes of l go into the pipe
-        pub into : Fair c (at [] w) → n ≤ p .ring .capacity - used p → Cut ((bk .went ++ take n l ∷ []) ++ w') cs' → Fair c (wrote 0 l n w' (recalled cs' bk) (at [] w))
+        pub into : Fair c (at [] w) → n ≤ p .ring .capacity - used p → Cut ((bk .went ++ take n l ∷ []) ++ w') cs'
+            → Fair c (wrote 0 l n w' (recalled cs' bk) (at [] w))
         into f m t =
             let q = holding (append (take n l) (p .ring)) p in
             let u : used q ≡ used p + n = length-append (p .ring .held) (take n l) ∙ omega (arith, length-take n l) in
@@ -65,7 +68,8 @@ module _ (c : ℕ) (some : 0 < c) where
             })
 
         -- they go to the first reader, which asks for a
-        pub hand : (a : ℕ) (r : List ℕ) → Fair c (at (a ∷ r) w) → n ≤ p .ring .capacity - used p → n ≤ a → Cut ((bk .went ++ take n l ∷ []) ++ w') cs' → Fair c (wrote 1 l n w' (recalled cs' bk) (at (a ∷ r) w))
+        pub hand : (a : ℕ) (r : List ℕ) → Fair c (at (a ∷ r) w) → n ≤ p .ring .capacity - used p → n ≤ a → Cut ((bk .went ++ take n l ∷ []) ++ w') cs'
+            → Fair c (wrote 1 l n w' (recalled cs' bk) (at (a ∷ r) w))
         hand a r f m j t =
             let q = holding (append (take n l) (p .ring)) p in
             let i : used p ≡ 0 = ap length (f .no-byte (omega arith)) in
@@ -84,13 +88,16 @@ module _ (c : ℕ) (some : 0 < c) where
               offers = v;
               no-byte = λ d. gone;
               no-room = λ d y. absurd (z d y);
-              line = line-out (bk .got) (q .ring .held) (bk .went ++ take n l ∷ []) (line-in (bk .got) (p .ring .held) (bk .went) (f .line) (take n l)) (min a (used q));
+              line =
+                  line-out (bk .got) (q .ring .held) (bk .went ++ take n l ∷ []) (line-in (bk .got) (p .ring .held) (bk .went) (f .line) (take n l))
+                  (min a (used q));
               order = t;
               turns = fed-first (bk .fed) a r (bk .begged) (length (take (min a (used q)) (q .ring .held))) (omega (arith, v')) (omega (arith, v')) (f .turns);
             })
 
       -- a write behind the writers that wait
-      pub waits : (r : List ℕ) (w : List (List ℕ)) (l : List ℕ) (k : Bool) → 0 < length l → (b ≡ false → used p ≡ c) → Fair c (at r w) → Fair c (queued k l (at r w))
+      pub waits : (r : List ℕ) (w : List (List ℕ)) (l : List ℕ) (k : Bool) → 0 < length l → (b ≡ false → used p ≡ c) → Fair c (at r w)
+          → Fair c (queued k l (at r w))
       waits r w l true h z f = f
       waits r w l false h z f =
           record {

@@ -35,14 +35,17 @@ module _ (c : ℕ) (some : 0 < c) (p : Pipe) (b : Bool) (bk : Books) where
         let n = min (length (y ∷ l)) (p .ring .capacity - used p) in
         by-lt (used p) c
         (λ h. carried c some (at [] []) (writing (y ∷ l) k) (write-moves p o e (omega arith) (omega arith) (length (y ∷ l)) false (omega arith) (omega arith))
-        (into c some p b bk e o (y ∷ l) n (omega arith) (omega arith) [] [] (bk .called ++ (y ∷ l) ∷ []) tt (λ d z. omega arith) f (omega arith) (cut-in (bk .went) (bk .called) n (y ∷ l) (omega arith) (omega arith) (f .order))))
+        (into c some p b bk e o (y ∷ l) n (omega arith) (omega arith) [] [] (bk .called ++ (y ∷ l) ∷ []) tt (λ d z. omega arith) f (omega arith)
+        (cut-in (bk .went) (bk .called) n (y ∷ l) (omega arith) (omega arith) (f .order))))
         (λ h. carried c some (at [] []) (writing (y ∷ l) k) (write-waits p o e (omega arith) (omega arith) (length (y ∷ l)) false (omega arith) (omega arith))
         (waits c some p b bk e o [] [] (y ∷ l) k (omega arith) (λ z. omega arith) f))
     write-open (a ∷ r) [] (y ∷ l) k f =
         let i : used p ≡ 0 = ap length (f .no-byte (omega arith)) in
         let n = min (min a (length (y ∷ l))) (p .ring .capacity - used p) in
-        carried c some (at (a ∷ r) []) (writing (y ∷ l) k) (write-moves p o e (omega arith) (omega arith) (min a (length (y ∷ l))) true (omega (arith, f .asks .0)) (omega arith))
-        (hand c some p b bk e o (y ∷ l) n (omega (arith, f .asks .0)) (omega arith) [] [] (bk .called ++ (y ∷ l) ∷ []) tt (λ d z. omega arith) a r f (omega arith) (omega arith)
+        carried c some (at (a ∷ r) []) (writing (y ∷ l) k)
+        (write-moves p o e (omega arith) (omega arith) (min a (length (y ∷ l))) true (omega (arith, f .asks .0)) (omega arith))
+        (hand c some p b bk e o (y ∷ l) n (omega (arith, f .asks .0)) (omega arith) [] [] (bk .called ++ (y ∷ l) ∷ []) tt (λ d z. omega arith) a r f
+        (omega arith) (omega arith)
         (cut-in (bk .went) (bk .called) n (y ∷ l) (omega (arith, f .asks .0)) (omega arith) (f .order)))
 
   pub write-fair : (r : List ℕ) (w : List (List ℕ)) (l : List ℕ) (k : Bool) → Fair c (at r w) → Fair c (happens (at r w) (tries (writing l k)))
@@ -54,7 +57,18 @@ module _ (c : ℕ) (some : 0 < c) (p : Pipe) (b : Bool) (bk : Books) where
 
   quiet : (r : List ℕ) (w : List (List ℕ)) → (0 < length w → used p ≡ c) → Fair c (at r w) → Fair c (settled (at r w))
   quiet r w z f =
-      record { size = f .size; under = f .under; live = f .live; asks = f .asks; offers = f .offers; no-byte = f .no-byte; no-room = λ d y. z d; line = f .line; order = f .order; turns = f .turns }
+      record {
+        size = f .size;
+        under = f .under;
+        live = f .live;
+        asks = f .asks;
+        offers = f .offers;
+        no-byte = f .no-byte;
+        no-room = λ d y. z d;
+        line = f .line;
+        order = f .order;
+        turns = f .turns;
+      }
 
   pub enter-fair : (r : List ℕ) (w : List (List ℕ)) → Fair c (at r w) → Fair c (happens (at r w) (tries entering))
   enter-fair r [] f =
@@ -67,13 +81,17 @@ module _ (c : ℕ) (some : 0 < c) (p : Pipe) (b : Bool) (bk : Books) where
       let n = min (length x) (p .ring .capacity - used p) in
       by-lt (used p) c
       (λ h. carried c some (at [] (x ∷ w)) entering (write-moves p (y .0) (y .1) (omega arith) (omega arith) (length x) false (f .offers .0) (omega arith))
-      (into c some p b bk (y .1) (y .0) x n (omega (arith, f .offers .0)) (omega arith) (x ∷ w) w (bk .called) (f .offers .1) (λ d z. omega (arith, f .no-room (omega arith) z)) f (omega arith)
+      (into c some p b bk (y .1) (y .0) x n (omega (arith, f .offers .0)) (omega arith) (x ∷ w) w (bk .called) (f .offers .1)
+      (λ d z. omega (arith, f .no-room (omega arith) z)) f (omega arith)
       (cut-enter (bk .went) x w (bk .called) n (omega (arith, f .offers .0)) (omega arith) (f .order))))
-      (λ h. carried c some (at [] (x ∷ w)) entering (write-waits p (y .0) (y .1) (omega arith) (omega arith) (length x) false (f .offers .0) (omega arith)) (quiet [] (x ∷ w) (λ d. omega arith) f))
+      (λ h. carried c some (at [] (x ∷ w)) entering (write-waits p (y .0) (y .1) (omega arith) (omega arith) (length x) false (f .offers .0) (omega arith))
+      (quiet [] (x ∷ w) (λ d. omega arith) f))
   enter-fair (a ∷ r) (x ∷ w) f =
       let i : used p ≡ 0 = ap length (f .no-byte (omega arith)) in
       let y = f .live (omega arith) in
       let n = min (min a (length x)) (p .ring .capacity - used p) in
-      carried c some (at (a ∷ r) (x ∷ w)) entering (write-moves p (y .0) (y .1) (omega arith) (omega arith) (min a (length x)) true (omega (arith, f .asks .0, f .offers .0)) (omega arith))
-      (hand c some p b bk (y .1) (y .0) x n (omega (arith, f .asks .0, f .offers .0)) (omega arith) (x ∷ w) w (bk .called) (f .offers .1) (λ d z. omega (arith, f .no-room (omega arith) z)) a r f (omega arith) (omega arith)
+      carried c some (at (a ∷ r) (x ∷ w)) entering
+      (write-moves p (y .0) (y .1) (omega arith) (omega arith) (min a (length x)) true (omega (arith, f .asks .0, f .offers .0)) (omega arith))
+      (hand c some p b bk (y .1) (y .0) x n (omega (arith, f .asks .0, f .offers .0)) (omega arith) (x ∷ w) w (bk .called) (f .offers .1)
+      (λ d z. omega (arith, f .no-room (omega arith) z)) a r f (omega arith) (omega arith)
       (cut-enter (bk .went) x w (bk .called) n (omega (arith, f .asks .0, f .offers .0)) (omega arith) (f .order)))

@@ -9,7 +9,7 @@ use Rattle.thread.specs.Code.{epipe, ecanceled}
 use Rattle.store.specs.Store.{refuse, left}
 use Rattle.pipe.specs.Pipe.{Pipe, reset, close}
 use Rattle.pipe.specs.HandOver.{used}
-use Rattle.pipe.specs.Waiting.{Waited, entering, tries, decides-write, decides-read, happens}
+use Rattle.pipe.specs.Waiting.{Waited, writing, entering, tries, decides-write, decides-read, happens}
 
 abbrev pub joined : List (List ℕ) → List ℕ
 joined [] = []
@@ -54,6 +54,18 @@ pub record Ended (p : Pipe) : Type 0 where
   pub close-read : (n : ℕ) (w : Bool) → 0 < n → p .ring .held ≡ [] → decides-read (left (close p) p) n w ≡ refuse epipe
 
 -- ---- nobody waits for ever
+
+-- a reader and a writer wait together only while writers are let in: neither waits for the other
+abbrev pub NotBoth : Waited → Type 0
+NotBoth s = 0 < length (s .readers) → 0 < length (s .writers) → s .letting ≡ true
+
+-- if a reader waits and no writer does, the next write serves the first: it is handed a byte at least, and no more than it asks for
+pub record Serves (s : Waited) (l : List ℕ) (a : ℕ) (r : List ℕ) : Type 0 where
+  pub told : ℕ
+  pub some : 0 < told
+  pub few : told ≤ a
+  pub readers : (k : Bool) → happens s (tries (writing l k)) .readers ≡ r
+  pub went : (k : Bool) → happens s (tries (writing l k)) .books .went ≡ s .books .went ++ take told l ∷ []
 
 -- if a writer waits and there is room, the next try lets the first in, with a byte at least
 pub record Enters (s : Waited) (w : List ℕ) (ws : List (List ℕ)) : Type 0 where
