@@ -12,6 +12,7 @@ pub mod Writing
 pub mod Reading
 pub mod Fairness
 pub mod Progress
+pub mod Counting
 pub mod Example
 pub mod ExampleWaiting
 pub mod Upstream

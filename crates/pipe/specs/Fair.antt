@@ -6,10 +6,10 @@ use Prim.Native.Nat.{ℕ, zero, suc, _+_, _≤_, _<_}
 use lib.ListN.{length, take}
 use Rattle.seq.specs.List.{All}
 use Rattle.thread.specs.Code.{epipe, ecanceled}
-use Rattle.store.specs.Store.{refuse, left}
+use Rattle.store.specs.Store.{refuse, left, settled}
 use Rattle.pipe.specs.Pipe.{Pipe, reset, close}
 use Rattle.pipe.specs.HandOver.{used}
-use Rattle.pipe.specs.Waiting.{Waited, writing, entering, tries, decides-write, decides-read, happens}
+use Rattle.pipe.specs.Waiting.{Waited, Try, writing, reading, entering, tries, decides-write, decides-read, decision, happens}
 
 abbrev pub joined : List (List ℕ) → List ℕ
 joined [] = []
@@ -45,6 +45,15 @@ pub record Fair (c : ℕ) (s : Waited) : Type 0 where
   pub order : Cut (s .books .went ++ s .writers) (s .books .called)
   -- readers that wait are served in the order in which they came
   pub turns : Fed (s .books .fed) (s .readers) (s .books .begged)
+
+-- a write while no writer waits, or another try: the pipe then holds as many bytes as the decision says, and as many as before if it is refused
+abbrev pub Counts : Try → Waited → Type 0
+Counts e s = used (happens s (tries e) .pipe) ≡ settled (λ m. m .used) (decision e s) (used (s .pipe))
+
+pub record Counted (s : Waited) : Type 0 where
+  pub writing : (l : List ℕ) (k : Bool) → s .writers ≡ [] → Counts (writing l k) s
+  pub reading : (n : ℕ) (k : Bool) → Counts (reading n k) s
+  pub entering : Counts entering s
 
 -- whoever waited at a pipe that is reset or closed is refused: this is what each would be told if it asked again, whoever waits
 pub record Ended (p : Pipe) : Type 0 where
