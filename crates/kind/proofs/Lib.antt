@@ -3,3 +3,4 @@ pub mod Answers
 pub mod Picks
 pub mod Lines
 pub mod Histories
+pub mod Determined

@@ -2,3 +2,4 @@ pub mod Verdict
 pub mod Kind
 pub mod Object
 pub mod History
+pub mod Determined
