@@ -23,6 +23,7 @@ use Rattle.mutex.specs.Mutex.{Mutex}
 use Rattle.mutex.specs.Post as mutex
 use Rattle.mutex.specs.Post.{passOut, releaseOut}
 use Rattle.mutex.proofs.Answers.{release-passes}
+use Rattle.mutex.proofs.Written.{unwritten}
 use Rattle.condvar.specs.Condvar.{signal, broadcast, wait, condvar-kind}
 use Rattle.condvar.specs.Post.{layout, signalOut, broadcastOut, waitOut, getOut, hasWaiters, Starts, Waited, SignalDecided, BroadcastDecided, WaitDecided}
 
@@ -139,12 +140,12 @@ module _ (i p st : ℕ) (h e m d : List ℕ) (w : ℕ) where
 
   -- the mutex refuses
   pub wait-mutex : (k : ℕ) → release ≡ negsuc k → Waited i p st h e m d w (negsuc k) h e m w
-  wait-mutex k z = record { code = rw z; neither = (refl, refl, refl, refl); both = tt }
+  wait-mutex k z = record { code = rw z; neither = (refl, refl, refl, refl); both = tt; written = unwritten m }
 
   -- the condition variable refuses
   module _ (a : ℕ) (z : release ≡ pos a) where
     pub wait-short : length h < 1 → Waited i p st h e m d w einval h e m w
-    wait-short b = record { code = rw (z, lt-leb 1 (length h) b); neither = (refl, refl, refl, refl); both = tt }
+    wait-short b = record { code = rw (z, lt-leb 1 (length h) b); neither = (refl, refl, refl, refl); both = tt; written = unwritten m }
 
     module _ (b : 1 ≤ length h) (r : ℤ) (k : ℕ) (e' : List ℕ) (q : queue.Does (pend i p st) (getD h 0 0) e r k e') where
       joined : Does layout (waitOut i p st) h e r (set h 0 k) e'
@@ -154,12 +155,12 @@ module _ (i p st : ℕ) (h e m d : List ℕ) (w : ℕ) where
       wait-queue c y =
           let u : join ≡ negsuc c = sym (joined .code) ∙ y in
           let v : (set h 0 k ≡ h) × (e' ≡ e) = rw y at (joined .kept) in
-          record { code = rw (z, u); neither = (v .0, v .1, refl, refl); both = tt }
+          record { code = rw (z, u); neither = (v .0, v .1, refl, refl); both = tt; written = unwritten m }
 
       -- both are done
       pub wait-both : (c : ℕ) → r ≡ pos c → (m' : List ℕ) (w' : ℕ) (u : ℤ) → Does mutex.layout passOut m d u m' d
-          → Told (on mutex.layout passOut m d .turn .woken) w w' → Waited i p st h e m d w (pos a) (set h 0 k) e' m' w'
-      wait-both c y m' w' u g t =
+          → Told (on mutex.layout passOut m d .turn .woken) w w' → mutex.Written m m' → Waited i p st h e m d w (pos a) (set h 0 k) e' m' w'
+      wait-both c y m' w' u g t l =
           let o : on mutex.layout passOut m d ≡ on mutex.layout (releaseOut i p st) m d = release-passes m d i p st a z in
           let f : u ≡ pos a = g .code ∙ ap (λ (x : Out Mutex). x .turn .code) o ∙ z in
           let n : r ≡ waits = joins-waits i p st (getD h 0 0) e c (sym (q .code) ∙ y) (q .code) in
@@ -167,4 +168,5 @@ module _ (i p st : ℕ) (h e m d : List ℕ) (w : ℕ) where
             code = rw (z, sym (joined .code) ∙ y);
             neither = tt;
             both = (rw n at joined, rw f at (alike mutex.layout passOut (releaseOut i p st) m d u m' d o g), rw o at t);
+            written = l;
           }

@@ -66,6 +66,8 @@ pub record Waited (i p st : ℕ) (h e m d : List ℕ) (w : ℕ) (r : ℤ) (h' e'
   pub both : Allowed r
       (Does layout (waitOut i p st) h e waits h' e' × Does mutex.layout (releaseOut i p st) m d r m' d
       × Told (on mutex.layout (releaseOut i p st) m d .turn .woken) w w')
+  -- and how the mutex's owner is written
+  pub written : mutex.Written m m'
 
 -- on plain numbers: what the own definition answers, for every queue in which somebody waits or nobody
 abbrev pub SignalDecided : Bool → ℤ → Type 0

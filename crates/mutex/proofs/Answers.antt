@@ -92,7 +92,7 @@ pub record Four (h : List ℕ) : Type 0 where
   pub rest : List ℕ
   pub is : h ≡ flag ∷ owner ∷ count ∷ len ∷ rest
 
-four : (h : List ℕ) → 4 ≤ length h → Four h
+pub four : (h : List ℕ) → 4 ≤ length h → Four h
 four [] k = absurd (omega arith)
 four (a ∷ []) k = absurd (omega arith)
 four (a ∷ b ∷ []) k = absurd (omega arith)

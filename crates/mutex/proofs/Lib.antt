@@ -1,7 +1,9 @@
 pub mod Books
 pub mod Law
 pub mod Answers
+pub mod Written
 pub mod Moves
 pub mod Histories
 pub mod Upstream
 pub mod Example
+pub mod Determined

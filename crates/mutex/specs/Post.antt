@@ -3,7 +3,7 @@
 use mathlib.Core.Path.{_≡_}
 use mathlib.Core.Bool.{Bool, true, false, cond}
 use mathlib.Core.List.{List, map}
-use Prim.Native.Nat.{ℕ}
+use Prim.Native.Nat.{ℕ, _≤_, _<_}
 use lib.Dec.{eqb, ltb}
 use lib.IntN.{ℤ, pos}
 use lib.ListN.{getD}
@@ -56,6 +56,16 @@ ownerId (thread i) = pos i
 -- a new mutex
 abbrev pub Starts : List ℕ → ℤ → List ℕ → Type 0
 Starts = Started mutex-kind layout free
+
+-- how the owner is written, in a header that was h and is h': what the numbers leave open
+pub record Written (h h' : List ℕ) : Type 0 where
+  -- one that found it free, and one that waited until now, is flagged by 1
+  pub found : getD h 0 0 ≡ 0 → 0 < getD h' 0 0 → getD h' 0 0 ≡ 1
+  pub woken : getD h' 3 0 < getD h 3 0 → 0 < getD h' 0 0 → getD h' 0 0 ≡ 1
+  -- the flag of any other stays
+  pub stays : 0 < getD h 0 0 → getD h 3 0 ≤ getD h' 3 0 → 0 < getD h' 0 0 → getD h' 0 0 ≡ getD h 0 0
+  -- where there is none, the id of the last one stays
+  pub last : getD h' 0 0 ≡ 0 → getD h' 1 0 ≡ getD h 1 0
 
 -- the owner is not among those that wait
 abbrev pub apart : Owner → List ℕ → Bool

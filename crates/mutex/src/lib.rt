@@ -16,7 +16,7 @@ ghost use lib.ListN.{length, getD};
 ghost use Rattle.wait_queue.specs.Post.{Told};
 ghost use Rattle.kind.specs.Object.{on, Does, sized, sane};
 ghost use Rattle.mutex.specs.Mutex.{Mutex, formed as formedMutex, mutex-kind};
-ghost use Rattle.mutex.specs.Post.{ownerIn, layout, tryLockOut, unlockOut, lockOut, passOut, releaseOut, getOut, isLocked, ownerId, Starts, Audited, LockDecided, UnlockDecided};
+ghost use Rattle.mutex.specs.Post.{ownerIn, layout, tryLockOut, unlockOut, lockOut, passOut, releaseOut, getOut, isLocked, ownerId, Starts, Written, Audited, LockDecided, UnlockDecided};
 
 // What an unlock did: Gale's UnlockResult.
 pub const RELEASED: i32 = 0;
@@ -111,6 +111,7 @@ pub fn unlock_decide(lock_count: u32, owner_is_null: bool, owner_is_current: boo
 // OK: it is free.
 pub fn init(h: &mut [u32]) -> i32
     ensures { λ r. ⌜ Starts (now (h .entry)) r (now (h .exit)) ⌝ }
+    ensures { λ r. ⌜ Written (now (h .entry)) (now (h .exit)) ⌝ }
 {
     if h.len() < 4 {
         return EINVAL;
@@ -124,6 +125,7 @@ pub fn init(h: &mut [u32]) -> i32
 // OK: the thread owns it, with one lock more; EBUSY: another does; EOVERFLOW.
 pub fn try_lock(h: &mut [u32], e: &[u64], id: u32) -> i32
     ensures { λ r. ⌜ Does layout (tryLockOut id) (now (h .entry)) (now (e .entry)) r (now (h .exit)) (now (e .entry)) ⌝ }
+    ensures { λ r. ⌜ Written (now (h .entry)) (now (h .exit)) ⌝ }
 {
     if !formed(h, e) {
         return EINVAL;
@@ -149,6 +151,7 @@ pub fn try_lock(h: &mut [u32], e: &[u64], id: u32) -> i32
 fn seize(h: &mut [u32], e: &[u64], id: u32, priority: u32, state: u32) -> i32
     requires { ⌜ (sized 4 (now h) (now e) ≡ true) × (getD (now h) 2 0 ≡ 0) ⌝ }
     ensures { λ r. ⌜ Does layout (lockOut id priority state) (now (h .entry)) (now (e .entry)) r (now (h .exit)) (now (e .entry)) ⌝ }
+    ensures { λ r. ⌜ Written (now (h .entry)) (now (h .exit)) ⌝ }
 {
     if 0 < h[0] {
         return EINVAL;
@@ -172,6 +175,7 @@ fn seize(h: &mut [u32], e: &[u64], id: u32, priority: u32, state: u32) -> i32
 fn nest(h: &mut [u32], e: &[u64], id: u32, priority: u32, state: u32) -> i32
     requires { ⌜ (sized 4 (now h) (now e) ≡ true) × (0 < getD (now h) 0 0) × (0 < getD (now h) 2 0) × (getD (now h) 1 0 ≡ id) ⌝ }
     ensures { λ r. ⌜ Does layout (lockOut id priority state) (now (h .entry)) (now (e .entry)) r (now (h .exit)) (now (e .entry)) ⌝ }
+    ensures { λ r. ⌜ Written (now (h .entry)) (now (h .exit)) ⌝ }
 {
     if !wait_queue::fits(h[3], e) {
         return EINVAL;
@@ -193,6 +197,7 @@ fn nest(h: &mut [u32], e: &[u64], id: u32, priority: u32, state: u32) -> i32
 // OK: the thread owns it, with one lock more; WAITS: it waits, behind all of equal or higher priority.
 pub fn lock_blocking(h: &mut [u32], e: &mut [u64], id: u32, priority: u32, state: u32) -> i32
     ensures { λ r. ⌜ Does layout (lockOut id priority state) (now (h .entry)) (now (e .entry)) r (now (h .exit)) (now (e .exit)) ⌝ }
+    ensures { λ r. ⌜ Written (now (h .entry)) (now (h .exit)) ⌝ }
 {
     if !kind::housed(h, 4, e) {
         return EINVAL;
@@ -213,6 +218,7 @@ pub fn lock_blocking(h: &mut [u32], e: &mut [u64], id: u32, priority: u32, state
 pub fn pass(h: &mut [u32], e: &[u64], who: &mut u64) -> i32
     ensures { λ r. ⌜ Does layout passOut (now (h .entry)) (now (e .entry)) r (now (h .exit)) (now (e .entry)) ⌝ }
     ensures { λ r. ⌜ Told (on layout passOut (now (h .entry)) (now (e .entry)) .turn .woken) (now (who .entry)) (now (who .exit)) ⌝ }
+    ensures { λ r. ⌜ Written (now (h .entry)) (now (h .exit)) ⌝ }
 {
     if h.len() < 4 {
         return EINVAL;
@@ -237,6 +243,7 @@ pub fn pass(h: &mut [u32], e: &[u64], who: &mut u64) -> i32
 pub fn unlock(h: &mut [u32], e: &[u64], id: u32, who: &mut u64) -> i32
     ensures { λ r. ⌜ Does layout (unlockOut id) (now (h .entry)) (now (e .entry)) r (now (h .exit)) (now (e .entry)) ⌝ }
     ensures { λ r. ⌜ Told (on layout (unlockOut id) (now (h .entry)) (now (e .entry)) .turn .woken) (now (who .entry)) (now (who .exit)) ⌝ }
+    ensures { λ r. ⌜ Written (now (h .entry)) (now (h .exit)) ⌝ }
 {
     if !formed(h, e) {
         return EINVAL;

@@ -8,7 +8,7 @@ ghost use lib.ListN.{length};
 ghost use Rattle.wait_queue.specs.Post.{Told};
 ghost use Rattle.kind.specs.Object.{on, Does};
 ghost use Rattle.mutex.specs.Mutex.{Mutex};
-ghost use Rattle.mutex.specs.Post.{layout, tryLockOut, unlockOut, lockOut, getOut, isLocked, ownerId, Starts, Audited, LockDecided, UnlockDecided};
+ghost use Rattle.mutex.specs.Post.{layout, tryLockOut, unlockOut, lockOut, getOut, isLocked, ownerId, Starts, Written, Audited, LockDecided, UnlockDecided};
 
 #[no_mangle]
 pub extern "C" fn wq_mutex_lock_decide(
@@ -36,6 +36,7 @@ pub extern "C" fn wq_mutex_unlock_decide(
 #[no_mangle]
 pub extern "C" fn wq_mutex_init(head: &mut [u32; 4]) -> i32
     ensures { λ r. ⌜ Starts (now (head .entry)) r (now (head .exit)) ⌝ }
+    ensures { λ r. ⌜ Written (now (head .entry)) (now (head .exit)) ⌝ }
 {
     mutex::init(head)
 }
@@ -43,6 +44,7 @@ pub extern "C" fn wq_mutex_init(head: &mut [u32; 4]) -> i32
 #[no_mangle]
 pub extern "C" fn wq_mutex_try_lock(head: &mut [u32; 4], entry: &[u64; MAX_WAITERS], id: u32) -> i32
     ensures { λ r. ⌜ Does layout (tryLockOut id) (now (head .entry)) (now (entry .entry)) r (now (head .exit)) (now (entry .entry)) ⌝ }
+    ensures { λ r. ⌜ Written (now (head .entry)) (now (head .exit)) ⌝ }
 {
     mutex::try_lock(head, entry, id)
 }
@@ -56,6 +58,7 @@ pub extern "C" fn wq_mutex_lock_blocking(
     state: u32,
 ) -> i32
     ensures { λ r. ⌜ Does layout (lockOut id priority state) (now (head .entry)) (now (entry .entry)) r (now (head .exit)) (now (entry .exit)) ⌝ }
+    ensures { λ r. ⌜ Written (now (head .entry)) (now (head .exit)) ⌝ }
 {
     mutex::lock_blocking(head, entry, id, priority, state)
 }
@@ -69,6 +72,7 @@ pub extern "C" fn wq_mutex_unlock(
 ) -> i32
     ensures { λ r. ⌜ Does layout (unlockOut id) (now (head .entry)) (now (entry .entry)) r (now (head .exit)) (now (entry .entry)) ⌝ }
     ensures { λ r. ⌜ Told (on layout (unlockOut id) (now (head .entry)) (now (entry .entry)) .turn .woken) (now (who .entry)) (now (who .exit)) ⌝ }
+    ensures { λ r. ⌜ Written (now (head .entry)) (now (head .exit)) ⌝ }
 {
     mutex::unlock(head, entry, id, who)
 }

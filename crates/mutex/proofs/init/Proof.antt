@@ -2,12 +2,13 @@
 use native.Mathlib.Omega.{arith}
 use lib.ListN.{length-set}
 use Rattle.mutex.proofs.Answers.{short, made}
+use Rattle.mutex.proofs.Written.{unwritten, starts}
 use borrow.Author.Needs.{needs}
 use Rattle.mutex.proofs.init.Statement.{statement}
 use Rattle.mutex.proofs.init.Tie as tie
 
 returns : tie.Need-returns
-returns c = let a = c .before .args in short (a .h .now) (omega arith)
+returns c = let a = c .before .args in (short (a .h .now) (omega arith), unwritten (a .h .now))
 
 slice-write-h : tie.Need-slice-write-h
 slice-write-h c = search needs
@@ -22,7 +23,7 @@ same-length : tie.Need-same-length
 same-length c = search needs
 
 returns-2 : tie.Need-returns-2
-returns-2 c = let a = c .before .args in made (a .h .now) (omega arith)
+returns-2 c = let a = c .before .args in (made (a .h .now) (omega arith), starts (a .h .now) (omega arith))
 
 pub init-spec : {M : Type 1} → statement M
 init-spec =

@@ -5,12 +5,13 @@ use lib.ListN.{set, length-set}
 use borrow.Author.Tests.{not-true, not-false}
 use Rattle.wait_queue.specs.Queue.{ident}
 use Rattle.mutex.proofs.Answers.{pass-short, pass-no, pass-free, pass-first}
+use Rattle.mutex.proofs.Written.{unwritten, frees, passes}
 use borrow.Author.Needs.{needs}
 use Rattle.mutex.proofs.pass.Statement.{statement}
 use Rattle.mutex.proofs.pass.Tie as tie
 
 returns : tie.Need-returns
-returns c = let a = c .before .before .before .args in pass-short (a .h .now) (a .e .now) (a .who .now) (omega arith)
+returns c = let a = c .before .before .before .args in let t = pass-short (a .h .now) (a .e .now) (a .who .now) (omega arith) in (t .0, (t .1, unwritten (a .h .now)))
 
 slice-read-waits : tie.Need-slice-read-waits
 slice-read-waits c = search needs
@@ -19,7 +20,7 @@ fits-requires : tie.Need-fits-requires
 fits-requires c κs = search needs
 
 returns-2 : tie.Need-returns-2
-returns-2 c = let a = c .before .before .before .before .before .before .args in pass-no (a .h .now) (a .e .now) (a .who .now) (omega arith) (sym (c .before .fits2 .ensures) ∙ not-true _ (c .if2 .taken))
+returns-2 c = let a = c .before .before .before .before .before .before .args in let t = pass-no (a .h .now) (a .e .now) (a .who .now) (omega arith) (sym (c .before .fits2 .ensures) ∙ not-true _ (c .if2 .taken)) in (t .0, (t .1, unwritten (a .h .now)))
 
 slice-write-h : tie.Need-slice-write-h
 slice-write-h c = search needs
@@ -31,7 +32,7 @@ same-length : tie.Need-same-length
 same-length c = search needs
 
 returns-3 : tie.Need-returns-3
-returns-3 c = let a = c .before .before .before .before .before .before .before .args in pass-free (a .h .now) (a .e .now) (a .who .now) (omega arith) (sym (c .before .before .fits2 .ensures) ∙ not-false _ (c .before .if2 .left)) (omega arith)
+returns-3 c = let a = c .before .before .before .before .before .before .before .args in let t = pass-free (a .h .now) (a .e .now) (a .who .now) (omega arith) (sym (c .before .before .fits2 .ensures) ∙ not-false _ (c .before .if2 .left)) (omega arith) in (t .0, (t .1, frees (a .h .now) (omega arith)))
 
 index-1-unpend-first : tie.Need-index-1-unpend-first
 index-1-unpend-first c = search needs
@@ -55,7 +56,7 @@ same-length-2 : tie.Need-same-length-2
 same-length-2 c = search needs
 
 returns-4 : tie.Need-returns-4
-returns-4 c = let a = c .before .before .before .before .before .before .before .before .before .before .before .args in let u = c .before .unpend-first in pass-first (a .h .now) (a .e .now) (a .who .now) (omega arith) (sym (c .before .before .before .before .before .before .fits2 .ensures) ∙ not-false _ (c .before .before .before .before .before .if2 .left)) (u .result) (u .last .0) (u .last .1 .1 .1 .0) (omega arith) (u .ensures .0) (u .ensures .1)
+returns-4 c = let a = c .before .before .before .before .before .before .before .before .before .before .before .args in let u = c .before .unpend-first in let t = pass-first (a .h .now) (a .e .now) (a .who .now) (omega arith) (sym (c .before .before .before .before .before .before .fits2 .ensures) ∙ not-false _ (c .before .before .before .before .before .if2 .left)) (u .result) (u .last .0) (u .last .1 .1 .1 .0) (omega arith) (u .ensures .0) (u .ensures .1) in (t .0, (t .1, passes (a .h .now) (omega arith) (a .e .now) (u .result) (u .last .0) (a .e .now) _ (sym (c .before .before .before .before .before .before .fits2 .ensures) ∙ not-false _ (c .before .before .before .before .before .if2 .left)) (omega arith) (u .ensures .0)))
 
 pub pass-spec : {M : Type 1} → statement M
 pass-spec =

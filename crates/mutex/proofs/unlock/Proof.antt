@@ -4,6 +4,7 @@ use native.Mathlib.Omega.{arith}
 use borrow.Author.Tests.{not-true, not-false}
 use Rattle.seq.proofs.Integers.{answered}
 use Rattle.mutex.proofs.Answers.{words, unlock-no, unlock-free, unlock-other, unlock-nested, unlock-passes}
+use Rattle.mutex.proofs.Written.{unwritten, counts}
 use borrow.Author.Needs.{needs}
 use Rattle.mutex.proofs.unlock.Statement.{statement}
 use Rattle.mutex.proofs.unlock.Tie as tie
@@ -15,7 +16,7 @@ same-length : tie.Need-same-length
 same-length c = search needs
 
 returns : tie.Need-returns
-returns c = let a = c .before .before .before .before .before .args in unlock-no (a .h .now) (a .e .now) (a .id) (a .who .now) (sym (c .before .formed .ensures) ∙ not-true _ (c .if1 .taken))
+returns c = let a = c .before .before .before .before .before .args in let t = unlock-no (a .h .now) (a .e .now) (a .id) (a .who .now) (sym (c .before .formed .ensures) ∙ not-true _ (c .if1 .taken)) in (t .0, (t .1, unwritten (a .h .now)))
 
 slice-read-held : tie.Need-slice-read-held
 slice-read-held c = let a = c .before .before .before .before .before .before .args in omega (arith, words (a .h .now) (a .e .now) (sym (c .before .before .formed .ensures) ∙ not-false _ (c .before .if1 .left)))
@@ -24,7 +25,7 @@ same-length-2 : tie.Need-same-length-2
 same-length-2 c = search needs
 
 returns-2 : tie.Need-returns-2
-returns-2 c = let a = c .before .before .before .before .before .before .before .args in unlock-free (a .h .now) (a .e .now) (sym (c .before .before .before .formed .ensures) ∙ not-false _ (c .before .before .if1 .left)) (a .id) (a .who .now) (omega arith)
+returns-2 c = let a = c .before .before .before .before .before .before .before .args in let t = unlock-free (a .h .now) (a .e .now) (sym (c .before .before .before .formed .ensures) ∙ not-false _ (c .before .before .if1 .left)) (a .id) (a .who .now) (omega arith) in (t .0, (t .1, unwritten (a .h .now)))
 
 slice-read-if3 : tie.Need-slice-read-if3
 slice-read-if3 c = let a = c .before .before .before .before .before .before .before .before .args in omega (arith, words (a .h .now) (a .e .now) (sym (c .before .before .before .before .formed .ensures) ∙ not-false _ (c .before .before .before .if1 .left)))
@@ -33,7 +34,7 @@ same-length-3 : tie.Need-same-length-3
 same-length-3 c = search needs
 
 returns-3 : tie.Need-returns-3
-returns-3 c = let a = c .before .before .before .before .before .before .before .before .before .args in unlock-other (a .h .now) (a .e .now) (sym (c .before .before .before .before .before .formed .ensures) ∙ not-false _ (c .before .before .before .before .if1 .left)) (a .id) (a .who .now) (omega arith) (c .if3 .taken)
+returns-3 c = let a = c .before .before .before .before .before .before .before .before .before .args in let t = unlock-other (a .h .now) (a .e .now) (sym (c .before .before .before .before .before .formed .ensures) ∙ not-false _ (c .before .before .before .before .if1 .left)) (a .id) (a .who .now) (omega arith) (c .if3 .taken) in (t .0, (t .1, unwritten (a .h .now)))
 
 sub-h : tie.Need-sub-h
 sub-h c = search needs
@@ -45,7 +46,7 @@ same-length-4 : tie.Need-same-length-4
 same-length-4 c = search needs
 
 returns-4 : tie.Need-returns-4
-returns-4 c = let a = c .before .before .before .before .before .before .before .before .before .before .args in unlock-nested (a .h .now) (a .e .now) (sym (c .before .before .before .before .before .before .formed .ensures) ∙ not-false _ (c .before .before .before .before .before .if1 .left)) (a .id) (a .who .now) (omega arith) (omega arith)
+returns-4 c = let a = c .before .before .before .before .before .before .before .before .before .before .args in let t = unlock-nested (a .h .now) (a .e .now) (sym (c .before .before .before .before .before .before .formed .ensures) ∙ not-false _ (c .before .before .before .before .before .if1 .left)) (a .id) (a .who .now) (omega arith) (omega arith) in (t .0, (t .1, counts (a .h .now) (words (a .h .now) (a .e .now) (sym (c .before .before .before .before .before .before .formed .ensures) ∙ not-false _ (c .before .before .before .before .before .if1 .left))) _))
 
 pass-requires : tie.Need-pass-requires
 pass-requires c κs = search needs
@@ -54,7 +55,7 @@ same-length-5 : tie.Need-same-length-5
 same-length-5 c = search needs
 
 returns-5 : tie.Need-returns-5
-returns-5 c = let a = c .before .before .before .before .before .before .before .before .before .before .before .before .before .before .before .args in let u = c .before .before .pass in rw (answered {z = u .result} (u .ok)) (unlock-passes (a .h .now) (a .e .now) (sym (c .before .before .before .before .before .before .before .before .before .before .before .formed .ensures) ∙ not-false _ (c .before .before .before .before .before .before .before .before .before .before .if1 .left)) (a .id) (a .who .now) (omega arith) (omega arith) (omega arith) (u .result) (u .last .0) (u .last .1 .1 .0) (u .ensures .0, u .ensures .1))
+returns-5 c = let a = c .before .before .before .before .before .before .before .before .before .before .before .before .before .before .before .args in let u = c .before .before .pass in let t = unlock-passes (a .h .now) (a .e .now) (sym (c .before .before .before .before .before .before .before .before .before .before .before .formed .ensures) ∙ not-false _ (c .before .before .before .before .before .before .before .before .before .before .if1 .left)) (a .id) (a .who .now) (omega arith) (omega arith) (omega arith) (u .result) (u .last .0) (u .last .1 .1 .0) (u .ensures .0, u .ensures .1 .0) in rw (answered {z = u .result} (u .ok)) (t .0, (t .1, u .ensures .1 .1))
 
 pub unlock-spec : {M : Type 1} → statement M
 unlock-spec =
