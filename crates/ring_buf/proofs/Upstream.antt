@@ -9,6 +9,7 @@ use lib.IntN.{ℤ}
 use lib.ListN.{length, drop, getD, length-append, length-drop}
 use Rattle.thread.specs.Code.{ok, eagain}
 use Rattle.store.specs.Store.{refuse, accept, answer, Becomes, Did, handed, first}
+use Rattle.store.proofs.Determined.{did-same}
 use Rattle.store.proofs.Laws.{any-some, any-none, became, answers, kept-no}
 use Rattle.ring_buf.specs.Ring.{Ring, wrap, append, leave}
 use Rattle.ring_buf.specs.Bytes.{held, bytes, put, get, gotten}
@@ -16,7 +17,7 @@ use Rattle.ring_buf.specs.Upstream.{RingBuf, struct, view, shown, nextId
 use Rattle.ring_buf.proofs.Rings.{by-lt, wrap-low, wrap-high, wrap-below, wrap-wrap}
 use Rattle.ring_buf.proofs.Headers.{Sound, from-sound, is-sound}
 use Rattle.ring_buf.proofs.Answers.{held-is, spare-is, put-done, got-first}
-use Rattle.ring_buf.proofs.Determined.{determined}
+use Rattle.ring_buf.proofs.Determined.{faithful}
 
 -- ---- on numbers
 
@@ -73,7 +74,7 @@ module _ (h b : List ℕ) (r : ℤ) (h' b' : List ℕ) (k : Housed h b) (i : Inv
           let e : put x (held h b) ≡ accept (append (x ∷ []) (held h b)) ok = rw (any-some (held h b .spare) (omega (arith, spare-is h b s))) refl in
           let n : length (held h b .held ++ x ∷ []) ≡ getD h 2 0 + 1 = length-append (held h b .held) (x ∷ []) ∙ ap (λ (y : ℕ). y + 1) (held-is h b s) in
           let v : view h' ≡ is (getD h 1 0) (getD h 2 0 + 1) = became-view (became bytes (put x) h b d good e) ∙ ap (is (getD h 1 0)) n in
-          let o = determined (put x) h b d (put-done h b s x (view h .tail) f refl) in
+          let o = did-same faithful h b (put x) d (put-done h b s x (view h .tail) f refl) in
           subst (λ (v' : RingBuf). Put x (view h) b r v' b') (sym v)
           (record {
             inv = inv (getD h 0 0) (getD h 1 0) (getD h 2 0 + 1) (s .start) (omega arith);

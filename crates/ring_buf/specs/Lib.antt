@@ -3,3 +3,4 @@ pub mod Bytes
 pub mod Counters
 pub mod History
 pub mod Upstream
+pub mod Determined

@@ -1,2 +1,3 @@
 pub mod Store
 pub mod History
+pub mod Determined
