@@ -7,3 +7,4 @@ pub mod Lemmas
 pub mod Upstream
 pub mod Decisions
 pub mod Example
+pub mod Determined

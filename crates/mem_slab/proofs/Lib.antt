@@ -9,3 +9,4 @@ pub mod Histories
 pub mod HandOver
 pub mod Upstream
 pub mod Example
+pub mod Determined

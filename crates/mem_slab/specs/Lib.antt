@@ -4,3 +4,4 @@ pub mod Blocks
 pub mod History
 pub mod HandOver
 pub mod Upstream
+pub mod Determined

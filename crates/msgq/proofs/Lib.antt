@@ -21,3 +21,4 @@ pub mod Memory
 pub mod Upstream
 pub mod Others
 pub mod Refusals
+pub mod Determined

@@ -5,3 +5,4 @@ pub mod History
 pub mod Agreement
 pub mod HandOver
 pub mod Upstream
+pub mod Determined

@@ -16,3 +16,4 @@ pub mod Counting
 pub mod Example
 pub mod ExampleWaiting
 pub mod Upstream
+pub mod Determined

@@ -5,3 +5,4 @@ pub mod HandOver
 pub mod Waiting
 pub mod Fair
 pub mod Upstream
+pub mod Determined

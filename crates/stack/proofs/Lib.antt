@@ -11,3 +11,4 @@ pub mod Example
 pub mod Upstream
 pub mod Others
 pub mod Lemmas
+pub mod Determined

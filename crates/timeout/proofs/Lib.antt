@@ -14,3 +14,4 @@ pub mod Others
 pub mod Tells
 pub mod Lemmas
 pub mod Example
+pub mod Determined

@@ -3,3 +3,4 @@ pub mod Post
 pub mod History
 pub mod Pairs
 pub mod Upstream
+pub mod Determined

@@ -3,3 +3,4 @@ pub mod Histories
 pub mod Upstream
 pub mod Lemmas
 pub mod Example
+pub mod Determined
