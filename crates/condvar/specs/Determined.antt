@@ -20,7 +20,8 @@ pub record Determined : Type 0 where
   pub signal : (h e : List ℕ) (w : ℕ)
       → Only (λ ((r, h', w') : ℤ × List ℕ × ℕ). Does layout signalOut h e r h' e × Told (on layout signalOut h e .turn .woken) w w')
   pub broadcast : (h e out : List ℕ)
-      → Only (λ ((r, h', out') : ℤ × List ℕ × List ℕ). Does layout (broadcastOut (length out)) h e r h' e × Listed (on layout (broadcastOut (length out)) h e .turn .woken) out out')
+      → Only (λ ((r, h', out') : ℤ × List ℕ × List ℕ).
+      Does layout (broadcastOut (length out)) h e r h' e × Listed (on layout (broadcastOut (length out)) h e .turn .woken) out out')
   pub wait-blocking : (i p st : ℕ) (h e m d : List ℕ) (w : ℕ)
       → Only (λ ((r, h', e', m', w') : ℤ × List ℕ × List ℕ × List ℕ × ℕ). Waited i p st h e m d w r h' e' m' w')
   pub num-waiters : (h e : List ℕ) → Only (λ (r : ℤ). r ≡ on layout (getOut (λ (q : List ℕ). pos (length q))) h e .turn .code)

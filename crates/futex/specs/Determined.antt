@@ -19,7 +19,8 @@ pub record Determined : Type 0 where
   pub wait : (expected i p st : ℕ) (h e : List ℕ)
       → Only (λ ((r, h', e') : ℤ × List ℕ × List ℕ). Does layout (waitOut expected i p st) h e r h' e')
   pub wake : (all : Bool) (h e out : List ℕ)
-      → Only (λ ((r, h', out') : ℤ × List ℕ × List ℕ). Does layout (wakeOut all (length out)) h e r h' e × Listed (on layout (wakeOut all (length out)) h e .turn .woken) out out')
+      → Only (λ ((r, h', out') : ℤ × List ℕ × List ℕ).
+      Does layout (wakeOut all (length out)) h e r h' e × Listed (on layout (wakeOut all (length out)) h e .turn .woken) out out')
   pub val-set : (val : ℕ) (h e : List ℕ) → Only (λ ((r, h') : ℤ × List ℕ). Does layout (setOut val) h e r h' e)
   pub val-get : (h e : List ℕ) → Only (λ (r : ℤ). r ≡ on layout (getOut (λ (s : Futex) (q : List ℕ). s .val)) h e .turn .code)
   pub num-waiters : (h e : List ℕ) → Only (λ (r : ℤ). r ≡ on layout (getOut (λ (s : Futex) (q : List ℕ). length q)) h e .turn .code)

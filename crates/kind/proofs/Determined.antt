@@ -1,5 +1,5 @@
 -- What an object becomes tells each word of its header and each of its entries. So a contract leaves nothing open. Assumes nothing.
-use mathlib.Core.Path.{_≡_, refl, sym, ap, _∙_}
+use mathlib.Core.Path.{_≡_, sym, ap, _∙_}
 use mathlib.Core.Bool.{Bool, true, false, cond}
 use mathlib.Core.List.{List, []}
 use Prim.Native.Nat.{ℕ}
@@ -67,7 +67,8 @@ module _ (K : Kind) (L : Layout (K .Num)) (n : K .Num) (h : List ℕ) where
       made p q =
           let c = m .made p in
           let d = k .made q in
-          alike-only (L .words) (x .1) (y .1) (m .long ∙ sym (k .long)) (a (c .0 ∙ sym (d .0)) (nobody _ (c .1) ∙ sym (nobody _ (d .1)))) (m .beside ∙ sym (k .beside))
+          let l = nobody _ (c .1) ∙ sym (nobody _ (d .1)) in
+          alike-only (L .words) (x .1) (y .1) (m .long ∙ sym (k .long)) (a (c .0 ∙ sym (d .0)) l) (m .beside ∙ sym (k .beside))
 
       kept : x .0 ≡ einval → y .0 ≡ einval → x .1 ≡ y .1
       kept p q = let c : x .1 ≡ h = rw p at (m .kept) in let d : y .1 ≡ h = rw q at (k .kept) in c ∙ sym d

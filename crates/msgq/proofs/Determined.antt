@@ -1,8 +1,8 @@
 -- The message queue's contracts leave nothing open. Assumes nothing.
 use mathlib.Core.Path.{_≡_, refl, sym, ap, _∙_}
 use mathlib.Core.List.{List, [], _∷_, _++_}
-use Prim.Native.Nat.{ℕ, zero, suc, _+_, _*_, _≤_}
-use native.Mathlib.Nat.{suc-mul, zero-mul, add-comm}
+use Prim.Native.Nat.{ℕ, zero, suc, _+_, _*_, _<_}
+use native.Mathlib.Nat.{suc-mul, zero-mul}
 use native.Mathlib.Omega.{arith}
 use lib.IntN.{ℤ}
 use lib.ListN.{length, take, drop, getD}
@@ -12,7 +12,7 @@ use Rattle.seq.proofs.Only.{said, two, back-alike}
 use Rattle.store.specs.Store.{Reply}
 use Rattle.store.specs.Determined.{Faithful}
 use Rattle.store.proofs.Determined.{did-only, reads-only, hands-only, starts-only, decided-only}
-use Rattle.ring_buf.specs.Ring.{turn}
+use Rattle.ring_buf.specs.Ring.{turn, ring}
 use Rattle.ring_buf.proofs.Rings.{length-turn}
 use Rattle.ring_buf.proofs.Determined.{ring-only}
 use Rattle.msgq.specs.Messages.{slots}
@@ -41,6 +41,11 @@ used h b s =
     let t = length-turn (getD h 1 0) (slots (getD h 3 0) (getD h 0 0) b) (omega (arith, s .within .idx)) in
     length-take-le (getD h 2 0) (turn (getD h 1 0) (slots (getD h 3 0) (getD h 0 0) b)) (omega (arith, s .within .used))
 
+buffer : (size c t n : ℕ) (b b' : List ℕ) → t < c → ring c t n (slots size c b) ≡ ring c t n (slots size c b') → take (c * size) b ≡ take (c * size) b'
+buffer size c t n b b' k e =
+    let l = length-slots size c b in
+    slots-only size c b b' (ring-only c t n (slots size c b) (slots size c b') (omega arith) (l ∙ sym (length-slots size c b')) e)
+
 faithful : Faithful messages
 faithful =
     record {
@@ -48,10 +53,7 @@ faithful =
           let n = sym (used h b (from-sound h b f)) ∙ ap (λ (q : Msgq). length (q .ring .held)) e ∙ used h' b' (from-sound h' b' f') in
           back-alike 4 h h' (λ i. e i .size ∷ n i ∷ e i .ring .start ∷ e i .ring .capacity ∷ []);
       buffer = λ h b b' f f' e.
-          let l = length-slots (getD h 3 0) (getD h 0 0) b in
-          let l' = length-slots (getD h 3 0) (getD h 0 0) b' in
-          slots-only (getD h 3 0) (getD h 0 0) b b'
-          (ring-only (getD h 0 0) (getD h 1 0) (getD h 2 0) (slots (getD h 3 0) (getD h 0 0) b) (slots (getD h 3 0) (getD h 0 0) b') (omega (arith, from-sound h b f .within .idx)) (l ∙ sym l') (λ i. e i .ring));
+          let k = from-sound h b f .within .idx in buffer (getD h 3 0) (getD h 0 0) (getD h 1 0) (getD h 2 0) b b' k (λ i. e i .ring);
     }
 
 settled-only : (d : Reply Numbers) (i u : ℕ) → Only (λ ((r, i', u') : ℤ × ℕ × ℕ). Settled d i u r i' u')

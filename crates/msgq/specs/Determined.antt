@@ -22,9 +22,11 @@ pub record Determined : Type 0 where
   pub put : (m h b : List ℕ) → Only (λ ((r, h', b') : ℤ × List ℕ × List ℕ). Did messages (puts m) h b r h' b')
   pub put-front : (m h b : List ℕ) → Only (λ ((r, h', b') : ℤ × List ℕ × List ℕ). Did messages (putFront m) h b r h' b')
   pub get : (h b out : List ℕ)
-      → Only (λ ((r, h', out') : ℤ × List ℕ × List ℕ). Did messages (gets (length out)) h b r h' b × Filled (handed messages (seen (length out) 0) h b) out out')
+      → Only (λ ((r, h', out') : ℤ × List ℕ × List ℕ).
+      Did messages (gets (length out)) h b r h' b × Filled (handed messages (seen (length out) 0) h b) out out')
   pub peek-at : (i : ℕ) (h b out : List ℕ)
-      → Only (λ ((r, out') : ℤ × List ℕ). (r ≡ looks messages (λ (q : Msgq). answer (peek (length out) i q)) h b) × Filled (handed messages (seen (length out) i) h b) out out')
+      → Only (λ ((r, out') : ℤ × List ℕ).
+      (r ≡ looks messages (λ (q : Msgq). answer (peek (length out) i q)) h b) × Filled (handed messages (seen (length out) i) h b) out out')
   pub purge : (h b : List ℕ) → Only (λ ((r, h') : ℤ × List ℕ). Did messages purges h b r h' b)
   pub num-free-get : (h b : List ℕ) → Only (λ (r : ℤ). r ≡ looks messages numFree h b)
   pub num-used-get : (h b : List ℕ) → Only (λ (r : ℤ). r ≡ looks messages numUsed h b)

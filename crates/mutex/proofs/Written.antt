@@ -12,7 +12,7 @@ use Rattle.seq.proofs.Order.{length-insert}
 use Rattle.thread.specs.Code.{ok, enomem, ebusy}
 use Rattle.thread.specs.Caller.{callerCode}
 use Rattle.wait_queue.specs.Queue.{maxWaiters, entry, ident, prio, waiting, roomy, holds, joined}
-use Rattle.wait_queue.specs.Turn.{Turn, refuse, asked, at, waits, pend, unpendFirst}
+use Rattle.wait_queue.specs.Turn.{refuse, asked, at, waits, pend, unpendFirst}
 use Rattle.wait_queue.specs.Post.{Does}
 use Rattle.mutex.specs.Post.{Written}
 use Rattle.mutex.proofs.Answers.{four}
@@ -30,7 +30,10 @@ module _ (n : ℕ) (e : List ℕ) (r : ℤ) (m : ℕ) (e' : List ℕ) where
           → length (waiting e n)
           ≤ length
           (cond a
-          (asked z (waiting e n) (cond b (refuse ebusy (waiting e n)) (cond c (record { code = waits; queue = joined (entry p i) (waiting e n); woken = [] }) (refuse enomem (waiting e n)))))
+          (asked z (waiting e n)
+          (cond b
+          (refuse ebusy (waiting e n))
+          (cond c (record { code = waits; queue = joined (entry p i) (waiting e n); woken = [] }) (refuse enomem (waiting e n)))))
           (refuse (negsuc 21) (waiting e n))
           .queue)
       go false z b c = omega arith
@@ -63,7 +66,9 @@ unwritten h = stays h h refl refl (omega arith)
 module _ (h : List ℕ) (k : 4 ≤ length h) where
   -- a lock more or less
   pub counts : (c : ℕ) → Written h (set h 2 c)
-  counts c = let l : getD (set h 2 c) 3 0 ≡ getD h 3 0 = rw (four h k .is) refl in stays h (set h 2 c) (rw (four h k .is) refl) (rw (four h k .is) refl) (omega arith)
+  counts c =
+      let l : getD (set h 2 c) 3 0 ≡ getD h 3 0 = rw (four h k .is) refl in
+      stays h (set h 2 c) (rw (four h k .is) refl) (rw (four h k .is) refl) (omega arith)
 
   -- a free one is taken
   pub takes : (i : ℕ) → getD h 0 0 ≡ 0 → Written h (set (set (set h 0 1) 1 i) 2 1)
@@ -84,7 +89,8 @@ module _ (h : List ℕ) (k : 4 ≤ length h) where
         stays h (set h 3 m) (rw (four h k .is) refl) (rw (four h k .is) refl) (omega (arith, no-shorter (getD h 3 0) e r m e' i p st d))
 
     -- it is handed over
-    pub passes : (i : ℕ) → roomy (getD h 3 0) e ≡ true → 0 < getD h 3 0 → Does (unpendFirst ok) (getD h 3 0) e r m e' → Written h (set (set (set (set h 3 m) 0 1) 1 i) 2 1)
+    pub passes : (i : ℕ) → roomy (getD h 3 0) e ≡ true → 0 < getD h 3 0 → Does (unpendFirst ok) (getD h 3 0) e r m e'
+        → Written h (set (set (set (set h 3 m) 0 1) 1 i) 2 1)
     passes i o b d =
         let l : getD (set (set (set (set h 3 m) 0 1) 1 i) 2 1) 3 0 ≡ m = rw (four h k .is) refl in
         gets h (set (set (set (set h 3 m) 0 1) 1 i) 2 1) (rw (four h k .is) refl) (λ p q. omega (arith, shorter (getD h 3 0) e r m e' o b d))

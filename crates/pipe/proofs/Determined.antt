@@ -1,6 +1,6 @@
 -- The pipe's contracts leave nothing open. Assumes nothing.
 use mathlib.Core.Path.{_≡_, refl, sym, ap, _∙_}
-use mathlib.Core.Bool.{Bool, true, cond}
+use mathlib.Core.Bool.{true, cond}
 use mathlib.Core.List.{List, [], _∷_}
 use Prim.Native.Nat.{ℕ, zero, suc, _≤_}
 use native.Mathlib.Omega.{arith}
@@ -17,7 +17,7 @@ use Rattle.ring_buf.proofs.Determined as ring
 use Rattle.pipe.specs.Pipe.{Pipe, write, read, reset, close, clearReset}
 use Rattle.pipe.specs.Post.{isOpen, isResetting, layout, formed, new, Moves, writeDecision, readDecision, Decided}
 use Rattle.pipe.specs.Determined.{Determined}
-use Rattle.pipe.proofs.Headers.{Formed, from-formed}
+use Rattle.pipe.proofs.Headers.{from-formed}
 
 -- the word of flags
 flags-are : (f : ℕ) → f ≤ 3 → f ≡ cond (isOpen f) (cond (isResetting f) 3 1) (cond (isResetting f) 2 0)

@@ -3,7 +3,7 @@ use mathlib.Core.Path.{_≡_, sym, ap, _∙_}
 use mathlib.Core.List.{List, [], _∷_, _++_, append-nil}
 use Prim.Native.Nat.{ℕ, _+_, _-_, _<_}
 use native.Mathlib.Omega.{arith}
-use lib.ListN.{length, take, drop, getD, take-append-drop}
+use lib.ListN.{length, take, getD, take-append-drop}
 use lib.Seq.{length-take-le}
 use Rattle.seq.proofs.Only.{said, two, back-alike}
 use Rattle.store.specs.Determined.{Faithful}

@@ -1,7 +1,7 @@
 -- The semaphore's contracts leave nothing open. Assumes nothing.
-use mathlib.Core.Path.{_≡_, refl, sym, ap, _∙_}
+use mathlib.Core.Path.{_≡_, refl, sym, _∙_}
 use mathlib.Core.Bool.{Bool, true, false}
-use mathlib.Core.List.{List, [], _∷_}
+use mathlib.Core.List.{[], _∷_}
 use Prim.Native.Nat.{ℕ, suc}
 use native.Mathlib.Omega.{arith}
 use lib.IntN.{ℤ}
@@ -11,7 +11,7 @@ use Rattle.seq.specs.Only.{Only}
 use Rattle.seq.proofs.Only.{said, back-alike}
 use Rattle.kind.specs.Determined.{Faithful}
 use Rattle.kind.proofs.Determined.{does-only, reads-only, tells-only, lists-only, started-only, audited-only}
-use Rattle.sem.specs.Sem.{Sem, formed, sem-kind}
+use Rattle.sem.specs.Sem.{formed, sem-kind}
 use Rattle.sem.specs.Post.{layout, giveOut, tryTakeOut, takeOut, resetOut, GiveDecided, TakeDecided}
 use Rattle.sem.specs.Determined.{Determined}
 

@@ -21,7 +21,8 @@ pub record Determined : Type 0 where
   pub try-take : (h e : List ℕ) → Only (λ ((r, h') : ℤ × List ℕ). Does layout tryTakeOut h e r h' e)
   pub take-blocking : (i p st : ℕ) (h e : List ℕ) → Only (λ ((r, h', e') : ℤ × List ℕ × List ℕ). Does layout (takeOut i p st) h e r h' e')
   pub reset : (h e out : List ℕ)
-      → Only (λ ((r, h', out') : ℤ × List ℕ × List ℕ). Does layout (resetOut (length out)) h e r h' e × Listed (on layout (resetOut (length out)) h e .turn .woken) out out')
+      → Only (λ ((r, h', out') : ℤ × List ℕ × List ℕ).
+      Does layout (resetOut (length out)) h e r h' e × Listed (on layout (resetOut (length out)) h e .turn .woken) out out')
   pub count-get : (h e : List ℕ) → Only (λ (r : ℤ). r ≡ on layout (getOut (λ (s : Sem) (q : List ℕ). s .count)) h e .turn .code)
   pub limit-get : (h e : List ℕ) → Only (λ (r : ℤ). r ≡ on layout (getOut (λ (s : Sem) (q : List ℕ). s .limit)) h e .turn .code)
   pub num-waiters : (h e : List ℕ) → Only (λ (r : ℤ). r ≡ on layout (getOut (λ (s : Sem) (q : List ℕ). length q)) h e .turn .code)

@@ -3,7 +3,7 @@ use mathlib.Core.Path.{_≡_, sym, ap, _∙_}
 use mathlib.Core.List.{List, [], _∷_, _++_}
 use Prim.Native.Nat.{ℕ, _+_, _-_, _≤_}
 use native.Mathlib.Omega.{arith}
-use lib.ListN.{length, getD, take, drop}
+use lib.ListN.{length, getD, take}
 use lib.Seq.{take-add, getD-take, ext-getD, length-take-le}
 use Rattle.seq.specs.Only.{Alike}
 use Rattle.seq.proofs.Back.{back-length}
@@ -18,7 +18,8 @@ use Rattle.stack.proofs.Memory.{is-sound}
 first : (n : ℕ) (w w' : List ℕ) → n ≤ length w → n ≤ length w' → Alike n w w' → take n w ≡ take n w'
 first n w w' l l' a =
     let k = length-take-le n w l in
-    ext-getD 0 (take n w) (take n w') (k ∙ sym (length-take-le n w' l')) (λ i b. getD-take n w i 0 (omega arith) ∙ a i (omega arith) ∙ sym (getD-take n w' i 0 (omega arith)))
+    ext-getD 0 (take n w) (take n w') (k ∙ sym (length-take-le n w' l'))
+    (λ i b. getD-take n w i 0 (omega arith) ∙ a i (omega arith) ∙ sym (getD-take n w' i 0 (omega arith)))
 
 -- the words that are held, and the others
 words : (c n : ℕ) (w w' : List ℕ) → n ≤ c → c ≤ length w → c ≤ length w' → stackOf c n w ≡ stackOf c n w' → take c w ≡ take c w'

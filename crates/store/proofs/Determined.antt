@@ -19,7 +19,8 @@ Outcome = ℤ × List ℕ × List ℕ
 module _ {S : Type 0} {P : Place S} (t : Faithful P) (h b : List ℕ) where
   header-only : (s : S) (h₁ b₁ h₂ b₂ : List ℕ) → Becomes P s h b h₁ b₁ → Becomes P s h b h₂ b₂ → h₁ ≡ h₂
   header-only s h₁ b₁ h₂ b₂ m n =
-      alike-only (P .words) h₁ h₂ (m .long .0 ∙ sym (n .long .0)) (t .header h₁ b₁ h₂ b₂ (m .formed) (n .formed) (m .object ∙ sym (n .object))) (m .beside ∙ sym (n .beside))
+      let a = t .header h₁ b₁ h₂ b₂ (m .formed) (n .formed) (m .object ∙ sym (n .object)) in
+      alike-only (P .words) h₁ h₂ (m .long .0 ∙ sym (n .long .0)) a (m .beside ∙ sym (n .beside))
 
   buffer-only : (s : S) (k b₁ b₂ : List ℕ) → Becomes P s h b k b₁ → Becomes P s h b k b₂ → b₁ ≡ b₂
   buffer-only s k b₁ b₂ m n =

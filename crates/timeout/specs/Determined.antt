@@ -17,7 +17,8 @@ pub record Determined : Type 0 where
       → Only (λ ((r, n') : ℤ × ℕ). Decided (announceDecide active deadline clock ticks) n r n')
   pub init : (clock : ℕ) (h : List ℕ) → Only (λ ((r, h') : ℤ × List ℕ). Started place (may clock) (fresh clock) h [] r h' [])
   pub add : (duration : ℕ) (h : List ℕ) (n : ℕ)
-      → Only (λ ((r, h', n') : ℤ × List ℕ × ℕ). Did place (adds duration) h [] r h' [] × (n' ≡ settled (λ (t : Timeout). t .deadline) (reply place (adds duration) h []) n))
+      → Only (λ ((r, h', n') : ℤ × List ℕ × ℕ).
+      Did place (adds duration) h [] r h' [] × (n' ≡ settled (λ (t : Timeout). t .deadline) (reply place (adds duration) h []) n))
   pub add-absolute : (deadline : ℕ) (h : List ℕ) → Only (λ ((r, h') : ℤ × List ℕ). Did place (addAbsolute deadline) h [] r h' [])
   pub add-forever : (h : List ℕ) → Only (λ ((r, h') : ℤ × List ℕ). Did place addForever h [] r h' [])
   pub add-no-wait : (h : List ℕ) → Only (λ ((r, h') : ℤ × List ℕ). Did place addNoWait h [] r h' [])

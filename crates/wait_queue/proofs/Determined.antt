@@ -3,14 +3,14 @@ use mathlib.Core.Path.{_≡_, sym, ap, _∙_}
 use mathlib.Core.Bool.{Bool}
 use mathlib.Core.List.{List, [], _∷_}
 use Prim.Native.Nat.{ℕ}
-use lib.IntN.{ℤ, pos}
+use lib.IntN.{ℤ}
 use lib.ListN.{length, drop}
 use Rattle.seq.specs.Only.{Only}
 use Rattle.seq.specs.List.{back}
 use Rattle.seq.proofs.Back.{back-length}
 use Rattle.seq.proofs.Only.{said, and, exactly, back-alike, alike-only}
 use Rattle.wait_queue.specs.Turn.{Turn, at, pend, unpendFirst, unpendAll, remove}
-use Rattle.wait_queue.specs.Post.{Does, Told, Listed, Audited}
+use Rattle.wait_queue.specs.Post.{Does, Told, Audited}
 use Rattle.wait_queue.specs.Determined.{Determined}
 
 -- two queues in memory that are the same, with the same words behind what is theirs of e
