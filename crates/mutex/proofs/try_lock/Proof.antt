@@ -2,7 +2,7 @@
 use mathlib.Core.Path.{sym, _∙_}
 use native.Mathlib.Omega.{arith}
 use borrow.Author.Tests.{not-true, not-false, ltb-false}
-use lib.ListN.{getD, set, length-set}
+use lib.ListN.{getD, length-set}
 use Rattle.mutex.proofs.Answers.{words, free-flag, tried-no, tried-free, tried-other, tried-over, tried-again}
 use Rattle.mutex.proofs.Written.{unwritten, takes, counts}
 use borrow.Author.Needs.{needs}
@@ -25,10 +25,10 @@ slice-write-h : tie.Need-slice-write-h
 slice-write-h c = let a = c .before .before .before .before .before .before .before .args in omega (arith, words (a .h .now) (a .e .now) (sym (c .before .before .before .formed .ensures) ∙ not-false _ (c .before .before .if1 .left)))
 
 slice-write-h-2 : tie.Need-slice-write-h-2
-slice-write-h-2 c = let a = c .before .before .before .before .before .before .before .args in omega (arith, words (a .h .now) (a .e .now) (sym (c .before .before .before .formed .ensures) ∙ not-false _ (c .before .before .if1 .left)), length-set (a .h .now) 0 1)
+slice-write-h-2 c = let a = c .before .before .before .before .before .before .before .args in simp length-set (omega (arith, words (a .h .now) (a .e .now) (sym (c .before .before .before .formed .ensures) ∙ not-false _ (c .before .before .if1 .left))))
 
 slice-write-h-3 : tie.Need-slice-write-h-3
-slice-write-h-3 c = let a = c .before .before .before .before .before .before .before .args in omega (arith, words (a .h .now) (a .e .now) (sym (c .before .before .before .formed .ensures) ∙ not-false _ (c .before .before .if1 .left)), length-set (a .h .now) 0 1, length-set (set (a .h .now) 0 1) 1 (a .id))
+slice-write-h-3 c = let a = c .before .before .before .before .before .before .before .args in simp length-set (omega (arith, words (a .h .now) (a .e .now) (sym (c .before .before .before .formed .ensures) ∙ not-false _ (c .before .before .if1 .left))))
 
 same-length-2 : tie.Need-same-length-2
 same-length-2 c = search needs
