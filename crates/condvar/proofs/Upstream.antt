@@ -16,16 +16,19 @@ use Rattle.thread.specs.Code.{ok, eperm, enomem, ebusy, einval, edeadlk}
 use Rattle.thread.specs.Priority.{maxPriority}
 use Rattle.thread.specs.Caller.{callerCode}
 use Rattle.thread.specs.Thread.{running}
-use Rattle.wait_queue.specs.Queue.{maxWaiters, entry, prio, ident, woken, waiting, roomy, holds, joined, Well}
+use Rattle.wait_queue.specs.Queue.{maxWaiters, entry, prio, ident, woken, waiting, roomy, holds, joined}
 use Rattle.wait_queue.specs.Turn.{waits}
 use Rattle.wait_queue.specs.Post.{Told, Listed}
+use Rattle.wait_queue.specs.Upstream.{AllAreWoken}
 use Rattle.wait_queue.proofs.Answers.{ident-entry}
 use Rattle.wait_queue.proofs.Well.{well-empty}
+use Rattle.kind.specs.Verdict.{upTo, wake, allow}
 use Rattle.kind.specs.Kind.{plain}
 use Rattle.kind.specs.Object.{Out, refused, anyone, on, Does, sane}
 use Rattle.kind.specs.History.{Event, calls, asks, happens}
 use Rattle.kind.proofs.Memory.{Housed, is-on, malformed, shown, unchanged, barred}
 use Rattle.kind.proofs.Answers.{handed-no}
+use Rattle.kind.proofs.Forward.{housed-sane, woken-by, start-refused}
 use Rattle.kind.proofs.Histories.{always, step}
 use Rattle.mutex.specs.Mutex.{Owner, nobody, Mutex, held, formed, taken, mutex-kind}
 use Rattle.mutex.specs.Mutex as owner
@@ -33,9 +36,9 @@ use Rattle.mutex.specs.Post as mutex
 use Rattle.mutex.specs.Post.{releaseOut}
 use Rattle.mutex.proofs.Law.{mk}
 use Rattle.mutex.proofs.Answers.{release-no, release-caller, release-free, release-other, release-nested}
-use Rattle.condvar.specs.Condvar.{Call, signal, broadcast, wait, condvar-kind}
+use Rattle.condvar.specs.Condvar.{Call, signal, broadcast, wait, decide, condvar-kind}
 use Rattle.condvar.specs.Post.{layout, signalOut, broadcastOut, waitOut, getOut, hasWaiters, Starts, Waited, SignalDecided, BroadcastDecided, WaitDecided}
-use Rattle.condvar.specs.Upstream.{Inv, Init, Signal, FirstWoken, NobodyWoken, Broadcast, AllWoken, Waits, WaitBlocking, Given, Both, Neither, NumWaiters, HasWaiters, SignalDecide, BroadcastDecide, WaitDecide, CleanState, signals, Equivalence, Idempotent}
+use Rattle.condvar.specs.Upstream.{Inv, Init, Signal, Signalled, NobodyWoken, Broadcast, Waits, WaitBlocking, Given, Both, Neither, NumWaiters, HasWaiters, SignalDecide, BroadcastDecide, WaitDecide, CleanState, signals, Equivalence, Idempotent}
 use Rattle.condvar.proofs.Law.{condvar-lawful}
 
 -- decide functions
@@ -72,6 +75,10 @@ condvar-init h r h' e k s =
     let c : r ≡ ok = s .code ∙ rw (le-leb 1 (length h) k) in
     (c, rw (s .made c .1 e) (record { inv = well-empty; empty = refl }))
 
+-- a header of no word
+pub init-refuses : (h : List ℕ) (r : ℤ) (h' : List ℕ) → length h < 1 → Starts h r h' → (r ≡ einval) × (h' ≡ h)
+init-refuses h r h' k s = start-refused condvar-kind layout tt h r h' k s
+
 pub init-clean-state : (h : List ℕ) (r : ℤ) (h' : List ℕ) → 1 ≤ length h → Starts h r h' → CleanState h'
 init-clean-state h r h' k s =
     let c : r ≡ ok = s .code ∙ rw (le-leb 1 (length h) k) in
@@ -103,12 +110,16 @@ module _ (h e : List ℕ) (r : ℤ) (h' e' : List ℕ) (m : Housed layout h e) w
     condvar-signal d = shown layout signalOut (λ c n q. Signal (waiting e (getD h 0 0)) q) h e r h' e' d m (signals-one (waiting e (getD h 0 0)) v)
 
     -- who is woken
-    pub first-woken : (x : ℕ) (q : List ℕ) (w w' : ℕ) → waiting e (getD h 0 0) ≡ x ∷ q → Does layout signalOut h e r h' e'
-        → Told (on layout signalOut h e .turn .woken) w w' → FirstWoken x q r w' (waiting e' (getD h' 0 0))
-    first-woken x q w w' l d t =
-        let y : on layout signalOut h e ≡ record { num = tt; turn = record { code = pos 1; queue = q; woken = woken ok x ∷ [] } } = rw (is-on layout signalOut h e m, l) in
-        let u : Well (x ∷ q) = rw l at v in
-        record { code = d .code ∙ rw y refl; told = rw y at t; others = d .queue ∙ rw y refl; highest = u .sorted .0 }
+    pub first-woken : (w w' : ℕ) → 0 < length (waiting e (getD h 0 0)) → Does layout signalOut h e r h' e' → Told (on layout signalOut h e .turn .woken) w w'
+        → Signalled (waiting e (getD h 0 0)) r w' (waiting e' (getD h' 0 0))
+    first-woken w w' b d t =
+        let s : sane condvar-kind layout h e ≡ true = housed-sane condvar-kind layout h e m refl in
+        let f = woken-by condvar-kind layout plain anyone signal h e s r h' e' 0 refl tt ok (pos 1) (some-one (waiting e (getD h 0 0)) b) b w w' v d t in
+        (f .0, f .2)
+      where
+        some-one : (q : List ℕ) → 0 < length q → decide tt plain (map ident q) 0 signal ≡ allow tt (wake (upTo 1) (λ t. ok)) (pos 1)
+        some-one [] b = absurd (omega arith)
+        some-one (x ∷ q) b = refl
 
   pub nobody-woken : (w w' : ℕ) → waiting e (getD h 0 0) ≡ [] → Does layout signalOut h e r h' e' → Told (on layout signalOut h e .turn .woken) w w'
       → NobodyWoken r w w' (waiting e' (getD h' 0 0))
@@ -123,7 +134,7 @@ module _ (h e : List ℕ) (r : ℤ) (h' e' : List ℕ) (m : Housed layout h e) w
         shown layout (broadcastOut (length out)) (λ c n q. Broadcast (waiting e (getD h 0 0)) c q) h e r h' e' d m
         (rw (broadcasts-all (length out) (waiting e (getD h 0 0)) k) (record { inv = well-empty; empty = refl; count = refl }))
 
-    pub all-woken : (out' : List ℕ) → Listed (on layout (broadcastOut (length out)) h e .turn .woken) out out' → AllWoken (waiting e (getD h 0 0)) out out'
+    pub all-woken : (out' : List ℕ) → Listed (on layout (broadcastOut (length out)) h e .turn .woken) out out' → AllAreWoken ok (waiting e (getD h 0 0)) out out'
     all-woken out' t =
         t ∙ rw (is-on layout (broadcastOut (length out)) h e m, broadcasts-all (length out) (waiting e (getD h 0 0)) k, length-map (waiting e (getD h 0 0)) (woken ok)) refl
 

@@ -6,12 +6,12 @@ use mathlib.Core.Logic.{_⊎_}
 use mathlib.Core.List.{List, [], _∷_, _++_, map}
 use Prim.Native.Nat.{ℕ, zero, suc, _+_, _-_, _≤_, _<_}
 use lib.IntN.{ℤ, pos, negsuc}
-use lib.ListN.{length, getD, drop}
-use Rattle.seq.specs.List.{All}
+use lib.ListN.{length, getD}
 use Rattle.thread.specs.Code.{ok, eagain}
 use Rattle.thread.specs.Upstream.{Tells}
-use Rattle.wait_queue.specs.Queue.{entry, ident, woken, waiting, joined, NoLower, Well}
+use Rattle.wait_queue.specs.Queue.{entry, ident, woken, waiting, joined, Well}
 use Rattle.wait_queue.specs.Turn.{waits}
+use Rattle.wait_queue.specs.Upstream.{FirstIsWoken}
 use Rattle.kind.specs.Object.{Out}
 use Rattle.kind.specs.History.{Event}
 use Rattle.mutex.specs.Mutex.{Mutex, unlocked, transferred, free, taken}
@@ -39,14 +39,9 @@ pub record Signal (q q' : List ℕ) : Type 0 where
   -- old(self).wait_q.len_spec() == 0 ==> self.wait_q.len_spec() == 0
   pub idle : length q ≡ 0 → length q' ≡ 0
 
--- what signal's clauses leave out, where x waits first, then q: w' is the woken thread's word
-pub record FirstWoken (x : ℕ) (q : List ℕ) (r : ℤ) (w' : ℕ) (q' : List ℕ) : Type 0 where
-  -- it is the first that is woken, with the result 0
-  pub code : r ≡ pos 1
-  pub told : w' ≡ woken ok x
-  -- the others wait on, in their order, and none of them is of higher priority
-  pub others : q' ≡ q
-  pub highest : All (NoLower x) q
+-- what signal's clauses leave out, where somebody waits: the first is woken with the result 0; w' is its word
+abbrev pub Signalled : List ℕ → ℤ → ℕ → List ℕ → Type 0
+Signalled q r w' q' = (r ≡ pos 1) × FirstIsWoken ok q w' q'
 
 -- and where nobody waits: the word stays as it was
 pub record NobodyWoken (r : ℤ) (w w' : ℕ) (q' : List ℕ) : Type 0 where
@@ -62,10 +57,6 @@ pub record Broadcast (q : List ℕ) (r : ℤ) (q' : List ℕ) : Type 0 where
   pub empty : length q' ≡ 0
   -- woken == old(self).wait_q.len_spec()
   pub count : r ≡ pos (length q)
-
--- what broadcast's clauses leave out: all are handed out, in the order of the queue, each with the result 0, and what is behind them stays
-abbrev pub AllWoken : List ℕ → List ℕ → List ℕ → Type 0
-AllWoken q out out' = out' ≡ map (woken ok) q ++ drop (length q) out
 
 -- result == true: the thread waits. It is 1 or 2 here, by what becomes of the mutex; all else is a refusal
 abbrev pub Waits : ℤ → Type 0

@@ -9,29 +9,29 @@ use lib.Dec.{leb, eqb}
 use lib.IntN.{ℤ, pos, negsuc}
 use lib.Signed.{mag}
 use lib.ListN.{length, getD, length-map}
-use borrow.Author.Tests.{lt-ltb, le-ltb, le-leb, lt-leb, leb-true, leb-false, eq-eqb, ne-eqb, eqb-true, eqb-false}
+use borrow.Author.Tests.{lt-ltb, le-leb, lt-leb, leb-true, leb-false, eq-eqb, ne-eqb, eqb-true, eqb-false}
 use Rattle.seq.proofs.Back.{back-length}
 use Rattle.seq.proofs.Order.{clash, length-insert}
-use Rattle.thread.specs.Code.{ok, eagain, enomem, ebusy, einval}
+use Rattle.thread.specs.Code.{ok, eagain, einval}
 use Rattle.thread.specs.Priority.{maxPriority}
-use Rattle.thread.specs.Caller.{callerCode}
 use Rattle.thread.specs.Thread.{running}
 use Rattle.wait_queue.specs.Queue.{maxWaiters, entry, prio, ident, woken, waiting, roomy, holds, joined, Well}
 use Rattle.wait_queue.specs.Turn.{waits}
 use Rattle.wait_queue.specs.Post.{Listed}
+use Rattle.wait_queue.specs.Upstream.{AllAreWoken}
 use Rattle.wait_queue.proofs.Memory.{is-roomy}
 use Rattle.wait_queue.proofs.Answers.{ident-entry}
 use Rattle.wait_queue.proofs.Well.{well-empty}
 use Rattle.kind.specs.Kind.{plain}
-use Rattle.kind.specs.Object.{Out, refused, anyone, thread, on, Does, sane}
+use Rattle.kind.specs.Object.{Out, refused, anyone, on, Does, sane}
 use Rattle.kind.specs.History.{Object, Event, calls, asks, happens, next}
 use Rattle.kind.proofs.Memory.{Housed, is-on, malformed, shown, unchanged, barred}
-use Rattle.kind.proofs.Answers.{handed-no, call-barred}
+use Rattle.kind.proofs.Answers.{handed-no}
 use Rattle.kind.proofs.Histories.{step}
 use Rattle.futex.specs.Futex.{Futex, Call, wait, wakeOne, futex-kind}
 use Rattle.futex.specs.Post.{layout, waitOut, wakeCall, wakeOut, setOut, getOut, Starts, WaitDecided, WakeDecided}
 use Rattle.futex.specs.History.{after}
-use Rattle.futex.specs.Upstream.{Inv, Init, Wait, Wake, FirstWoken, AllWoken, ValSet, ValGet, NumWaiters, WaitDecide, WakeDecide, Gating, WakeSemantics, Roundtrip, Bounded}
+use Rattle.futex.specs.Upstream.{Inv, Init, Wait, Wake, WakeFew, FirstWoken, ValSet, ValGet, NumWaiters, WaitDecide, WakeDecide, Gating, WakeSemantics, Roundtrip, Bounded}
 use Rattle.futex.proofs.Law.{mk, futex-lawful}
 
 -- decide functions
@@ -119,16 +119,9 @@ other-value x i p v q valid n = rw (lt-ltb p maxPriority valid, ne-eqb v x n)
 module _ (x i p v : ℕ) (q : List ℕ) (small : i < 4294967296) (valid : p < maxPriority) where
   module _ (is : v ≡ x) where
     -- the value is the expected one, and there is a place
-    pub wait-joins : length q < maxWaiters → holds i q ≡ false
+    wait-joins : length q < maxWaiters → holds i q ≡ false
         → waitOut x i p running (mk v) q ≡ record { num = mk v; turn = record { code = waits; queue = joined (entry p i) q; woken = [] } }
     wait-joins room absent = rw (lt-ltb p maxPriority valid, eq-eqb v x is, ident-entry p i small, absent, lt-ltb (length q) maxWaiters room)
-
-    -- the thread waits here already, or there is no place
-    no-twice : holds i q ≡ true → waitOut x i p running (mk v) q ≡ refused ebusy (mk v) q
-    no-twice z = rw (lt-ltb p maxPriority valid, eq-eqb v x is, ident-entry p i small, z)
-
-    no-place : holds i q ≡ false → maxWaiters ≤ length q → waitOut x i p running (mk v) q ≡ refused enomem (mk v) q
-    no-place z k = rw (lt-ltb p maxPriority valid, eq-eqb v x is, ident-entry p i small, z, le-ltb (length q) maxWaiters k)
 
   module _ (room : length q < maxWaiters) (absent : holds i q ≡ false) where
     pub wait-gating-condition : Gating x i p (mk v) q
@@ -272,7 +265,7 @@ module _ (h e : List ℕ) (r : ℤ) (h' e' : List ℕ) (m : Housed layout h e) w
         shown layout (setOut x) (λ c n q. (c ≡ ok) × ValSet x (waiting e (getD h 1 0)) n q) h e r h' e' d m (refl, record { inv = g; val = refl; waiters = refl })
 
   pub all-woken : (out out' : List ℕ) → length (waiting e (getD h 1 0)) ≤ length out → Listed (on layout (wakeOut true (length out)) h e .turn .woken) out out'
-      → AllWoken (waiting e (getD h 1 0)) out out'
+      → AllAreWoken ok (waiting e (getD h 1 0)) out out'
   all-woken out out' k t = t ∙ rw (is-on layout (wakeOut true (length out)) h e m, wakes-all (length out) val queue k, length-map queue (woken ok)) refl
 
   gets : (g : Futex → List ℕ → ℕ) → r ≡ on layout (getOut g) h e .turn .code → r ≡ pos (g (layout .num h) (waiting e (getD h 1 0)))
@@ -302,22 +295,6 @@ module _ (h e : List ℕ) (r : ℤ) (h' e' : List ℕ) (m : Housed layout h e) w
   pub wait-mismatch : (x i p : ℕ) → p < maxPriority → (getD h 0 0 ≡ x → ⊥) → Does layout (waitOut x i p running) h e r h' e' → Stays eagain
   wait-mismatch x i p valid n d =
       unchanged layout (waitOut x i p running) h e r h' e' 10 d (rw (is-on layout (waitOut x i p running) h e m, other-value x i p val queue valid n))
-
-  -- and with the expected one each is refused. Upstream's answers that the thread of a full queue is blocked, and it is in no queue
-  module _ (x i p : ℕ) (small : i < 4294967296) (valid : p < maxPriority) (is : getD h 0 0 ≡ x) (d : Does layout (waitOut x i p running) h e r h' e') where
-    pub wait-full-refuses : holds i (waiting e (getD h 1 0)) ≡ false → maxWaiters ≤ length (waiting e (getD h 1 0)) → Stays enomem
-    wait-full-refuses absent k =
-        unchanged layout (waitOut x i p running) h e r h' e' 11 d (rw (is-on layout (waitOut x i p running) h e m, no-place x i p val queue small valid is absent k))
-
-    pub wait-twice-refuses : holds i (waiting e (getD h 1 0)) ≡ true → Stays ebusy
-    wait-twice-refuses z =
-        unchanged layout (waitOut x i p running) h e r h' e' 15 d (rw (is-on layout (waitOut x i p running) h e m, no-twice x i p val queue small valid is z))
-
--- a priority above 31, a thread that waits already or does not run
-pub wait-caller-refuses : (x i p st : ℕ) (h e : List ℕ) (r : ℤ) (h' e' : List ℕ) (k : ℕ) → sane futex-kind layout h e ≡ true → callerCode p st ≡ negsuc k
-    → Does layout (waitOut x i p st) h e r h' e' → (r ≡ negsuc k) × (h' ≡ h) × (e' ≡ e)
-wait-caller-refuses x i p st h e r h' e' k s c d =
-    unchanged layout (waitOut x i p st) h e r h' e' k d (rw (call-barred futex-kind layout plain (thread i p st) (wait x) h e s k c))
 
 -- what upstream demands is refused here: more that wait than can, or too little memory
 module _ (h e : List ℕ) (r : ℤ) (h' e' : List ℕ) (s : sane futex-kind layout h e ≡ false) where
@@ -393,16 +370,50 @@ module _ (room v n : ℕ) where
       go true y = let x : 1 ≡ n = ap mag (rw y at z) in omega arith
       go false y = refused-wakes 21 (rw y at z)
 
+  -- one at most
+  one-at-most : (q : List ℕ) → wakeOut false room (mk v) q .turn .code ≡ pos n → n ≤ 1
+  one-at-most [] z = let x : 0 ≡ n = ap mag (rw (wakes-nobody room v) at z) in omega arith
+  one-at-most (t ∷ q) z = go (leb 1 room) refl
+    where
+      go : (c : Bool) → leb 1 room ≡ c → n ≤ 1
+      go true y = let x : 1 ≡ n = ap mag (rw y at z) in omega arith
+      go false y = refused-wakes 21 (rw y at z)
+
 few-enough : maxWaiters ≤ 4294967295
 unfolding maxWaiters
 few-enough = omega arith
 
-pub woken-bounded : (b : Bool) (room : ℕ) (h e : List ℕ) → Bounded b room h e
-woken-bounded b room h e = record { limit = few-enough; woken = go (leb 2 (length h)) (roomy (getD h 1 0) e) refl refl }
-  where
-    go : (c f : Bool) → leb 2 (length h) ≡ c → roomy (getD h 1 0) e ≡ f → (n : ℕ) → on layout (wakeOut b room) h e .turn .code ≡ pos n → n ≤ maxWaiters
-    go false f x y n z = refused-wakes room 0 n 21 (rw x at z)
-    go true false x y n z = refused-wakes room 0 n 21 (rw (x, y) at z)
-    go true true x y n z =
-        let u = at-most room (getD h 0 0) n b (waiting e (getD h 1 0)) (rw (x, y) at z) in
-        omega (arith, u, back-length e (getD h 1 0), is-roomy (getD h 1 0) e y .few)
+-- of any memory
+module _ (b : Bool) (room : ℕ) (h e : List ℕ) where
+  abbrev Answers : ℕ → Type 0
+  Answers n = on layout (wakeOut b room) h e .turn .code ≡ pos n
+
+  -- one that is not as it should be is refused
+  housed : (n : ℕ) → Answers n → Housed layout h e
+  housed n z = go (leb 2 (length h)) (roomy (getD h 1 0) e) refl refl
+    where
+      go : (c f : Bool) → leb 2 (length h) ≡ c → roomy (getD h 1 0) e ≡ f → Housed layout h e
+      go false f x y = refused-wakes room 0 n 21 (rw x at z)
+      go true false x y = refused-wakes room 0 n 21 (rw (x, y) at z)
+      go true true x y = record { words = leb-true 2 (length h) x; room = y }
+
+  told : (n : ℕ) (z : Answers n) → wakeOut b room (layout .num h) (waiting e (getD h 1 0)) .turn .code ≡ pos n
+  told n z = rw (is-on layout (wakeOut b room) h e (housed n z)) at z
+
+  within : (n : ℕ) → Answers n → n ≤ maxWaiters
+  within n z =
+      omega (arith, at-most room (getD h 0 0) n b (waiting e (getD h 1 0)) (told n z), back-length e (getD h 1 0), is-roomy (getD h 1 0) e (housed n z .room) .few)
+
+  pub woken-bounded : Bounded b room h e
+  woken-bounded = record { limit = few-enough; woken = within }
+
+  pub wake-few : (r : ℤ) (h' e' : List ℕ) → Does layout (wakeOut b room) h e r h' e' → WakeFew b (waiting e (getD h 1 0)) r
+  wake-few r h' e' d =
+      record {
+        few = λ n z. at-most room (getD h 0 0) n b (waiting e (getD h 1 0)) (told n (sym (d .code) ∙ z));
+        one-few = λ y n z. lone y n (told n (sym (d .code) ∙ z));
+        bounded = λ n z. within n (sym (d .code) ∙ z);
+      }
+    where
+      lone : b ≡ false → (n : ℕ) → wakeOut b room (layout .num h) (waiting e (getD h 1 0)) .turn .code ≡ pos n → n ≤ 1
+      lone y n z = one-at-most room (getD h 0 0) n (waiting e (getD h 1 0)) (rw y at z)

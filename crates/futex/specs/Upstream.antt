@@ -2,7 +2,7 @@
 -- Upstream's text stands above each field.
 use mathlib.Core.Path.{_≡_}
 use mathlib.Core.Bool.{Bool, true, false}
-use mathlib.Core.List.{List, [], _∷_, _++_, map}
+use mathlib.Core.List.{List, [], _∷_}
 use Prim.Native.Nat.{ℕ, _+_, _-_, _≤_, _<_}
 use lib.IntN.{ℤ, pos}
 use lib.ListN.{length, drop}
@@ -70,6 +70,15 @@ pub record Wake (all : Bool) (s : Futex) (q : List ℕ) (r : ℤ) (s' : Futex) (
   -- result.woken <= MAX_WAITERS
   pub bounded : woken ≤ maxWaiters
 
+-- with too little room a wake is refused; with any room, and of any memory, an answer that is no refusal is how many are woken
+pub record WakeFew (all : Bool) (q : List ℕ) (r : ℤ) : Type 0 where
+  -- result.woken <= old(self).wait_q.len_spec()
+  pub few : (n : ℕ) → r ≡ pos n → n ≤ length q
+  -- !wake_all ==> result.woken <= 1
+  pub one-few : all ≡ false → (n : ℕ) → r ≡ pos n → n ≤ 1
+  -- result.woken <= MAX_WAITERS
+  pub bounded : (n : ℕ) → r ≡ pos n → n ≤ maxWaiters
+
 -- what wake's clauses leave out is who is woken. One, where x waits first, then q: out is the room before the call, out' after it
 pub record FirstWoken (x : ℕ) (q out out' q' : List ℕ) : Type 0 where
   -- it is the first, with the result 0
@@ -77,10 +86,6 @@ pub record FirstWoken (x : ℕ) (q out out' q' : List ℕ) : Type 0 where
   -- the others wait on, in their order, and none of them is of higher priority
   pub others : q' ≡ q
   pub highest : All (NoLower x) q
-
--- all: in the order of the queue, each with the result 0, and what is behind them stays
-abbrev pub AllWoken : List ℕ → List ℕ → List ℕ → Type 0
-AllWoken q out out' = out' ≡ map (woken ok) q ++ drop (length q) out
 
 -- val_set
 pub record ValSet (new : ℕ) (q : List ℕ) (s' : Futex) (q' : List ℕ) : Type 0 where

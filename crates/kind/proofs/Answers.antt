@@ -215,7 +215,7 @@ module _ (K : Kind) (L : Layout (K .Num)) (v : ℕ → K .Wish) (i p st : ℕ) (
   unsettled (pos c) n = refl
   unsettled (negsuc c) n = refl
 
-  parks : (x : K .Wish) (a : ℤ) → K .formed (L .num h) (any (waiting e (getD h (L .len) 0))) ≡ true
+  pub parks : (x : K .Wish) (a : ℤ) → K .formed (L .num h) (any (waiting e (getD h (L .len) 0))) ≡ true
       → verdict K L v (thread i p st) k h e ≡ allow (L .num h) (park x) a
       → call K v (thread i p st) k (L .num h) (waiting e (getD h (L .len) 0)) ≡ record { num = L .num h; turn = pend i p st (waiting e (getD h (L .len) 0)) }
   parks x a f y = go (callerCode p st) refl

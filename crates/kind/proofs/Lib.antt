@@ -1,5 +1,6 @@
 pub mod Memory
 pub mod Answers
+pub mod Forward
 pub mod Picks
 pub mod Lines
 pub mod Histories

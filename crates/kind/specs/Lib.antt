@@ -3,3 +3,4 @@ pub mod Kind
 pub mod Object
 pub mod History
 pub mod Determined
+pub mod Effect

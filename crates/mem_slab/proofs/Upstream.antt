@@ -18,7 +18,7 @@ use Rattle.store.specs.Store.{Reply, refuse, accept, answer, reply, After, Beco
 use Rattle.store.proofs.Laws.{no-code, became, answers}
 use Rattle.mem_slab.specs.Slab.{Slab, leads, alloc, free, given}
 use Rattle.mem_slab.specs.Post.{slab, place, fit, led, Allocs, Frees, sees, isFull, isEmpty, Starts, AllocDecided, FreeDecided}
-use Rattle.mem_slab.specs.Blocks.{Call, meant, Calls, out}
+use Rattle.mem_slab.specs.Blocks.{Call, allocCall, freeCall, meant, Calls, out}
 use Rattle.mem_slab.specs.Upstream.{Inv, Init, Keeps, Alloc, Free, NumUsedGet, NumFreeGet, NumBlocksGet, BlockSizeGet, IsFull, IsEmpty, AllocDecide, FreeDecide, Inductive, AllocFree, AllocFreeMemory, FreeAlloc, Conserves, FullRejects, AllFreeRejects}
 use Rattle.mem_slab.proofs.Memory.{both, Fit, fit-is, is-fit, is-sound, next-link, reply-unfit, unseen, seen}
 use Rattle.mem_slab.proofs.Outs.{ended, alloc-cases, free-cases}
@@ -175,8 +175,14 @@ module _ (h l : List ℕ) (r : ℤ) (h' l' : List ℕ) where
 
   -- what upstream demands is refused here
   module _ (e : fit h l ≡ false) where
-    pub call-refuses : (k : Call) → Calls k h l r h' l' → Refused
+    call-refuses : (k : Call) → Calls k h l r h' l' → Refused
     call-refuses k d = ended place (led (meant k)) h l (refuse einval) (reply-unfit h l (meant k) e) d
+
+    pub alloc-refuses : Allocs h l r h' l' → Refused
+    alloc-refuses d = call-refuses allocCall d
+
+    pub free-unfit-refuses : (b : ℕ) → Frees b h l r h' l' → Refused
+    free-unfit-refuses b d = call-refuses (freeCall b) d
 
     pub get-refuses : (g : Slab → ℤ) → r ≡ sees g h l → r ≡ einval
     get-refuses g d = d ∙ sym (unseen h l g e)

@@ -5,5 +5,6 @@ pub mod Written
 pub mod Moves
 pub mod Histories
 pub mod Upstream
+pub mod Forward
 pub mod Example
 pub mod Determined

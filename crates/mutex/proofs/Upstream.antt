@@ -17,7 +17,6 @@ use Rattle.thread.specs.Priority.{maxPriority}
 use Rattle.thread.specs.Thread.{running}
 use Rattle.wait_queue.specs.Queue.{maxWaiters, entry, prio, ident, woken, waiting, holds, joined, Well}
 use Rattle.wait_queue.specs.Turn.{waits}
-use Rattle.wait_queue.specs.Post.{Told}
 use Rattle.wait_queue.proofs.Answers.{ident-entry}
 use Rattle.wait_queue.proofs.Well.{well-empty}
 use Rattle.kind.specs.Kind.{plain}
@@ -28,7 +27,7 @@ use Rattle.kind.proofs.Histories.{always, step}
 use Rattle.mutex.specs.Mutex.{Owner, nobody, thread, Mutex, Call, lock, tryLock, unlock, held, formed, maxCount, released, unlocked, transferred, free, taken, mutex-kind}
 use Rattle.mutex.specs.Post.{layout, tryLockOut, unlockOut, lockOut, getOut, isLocked, ownerId, Starts, LockDecided, UnlockDecided}
 use Rattle.mutex.specs.History.{fresh, after}
-use Rattle.mutex.specs.Upstream.{Inv, isOk, Another, Init, TryLock, LockBlocking, Unlock, FirstOwns, IsLocked, LockCountGet, NumWaiters, OwnerGet, LockDecide, UnlockDecide, OwnerCount, Roundtrip, times, Depth}
+use Rattle.mutex.specs.Upstream.{Inv, isOk, Another, Init, TryLock, LockBlocking, Unlock, IsLocked, LockCountGet, NumWaiters, OwnerGet, LockDecide, UnlockDecide, OwnerCount, Roundtrip, times, Depth}
 use Rattle.mutex.proofs.Law.{mk, free-fine, free-empty, mutex-lawful}
 use Rattle.mutex.proofs.Answers.{lock-null-bad, lock-null, lock-empty, lock-over, lock-more, lock-busy, lock-pend, unlock-null, unlock-empty, unlock-not, unlock-more, unlock-one}
 
@@ -434,21 +433,6 @@ module _ (h e : List ℕ) (r : ℤ) (h' e' : List ℕ) (m : Housed layout h e) (
   pub mutex-unlock : (i : ℕ) → Does layout (unlockOut i) h e r h' e' → Unlock i (layout .num h) (waiting e (getD h 3 0)) r (layout .num h') (waiting e' (getD h' 3 0))
   mutex-unlock i d =
       shown layout (unlockOut i) (Unlock i (layout .num h) (waiting e (getD h 3 0))) h e r h' e' d m (unlocks i own (getD h 2 0) (waiting e (getD h 3 0)) v)
-
-  -- who becomes the owner
-  pub first-owns : (i x : ℕ) (q : List ℕ) (w w' : ℕ) → own ≡ thread i → getD h 2 0 ≡ 1 → waiting e (getD h 3 0) ≡ x ∷ q
-      → Does layout (unlockOut i) h e r h' e' → Told (on layout (unlockOut i) h e .turn .woken) w w' → FirstOwns x q r w' (layout .num h') (waiting e' (getD h' 3 0))
-  first-owns i x q w w' o c l d t =
-      let y : on layout (unlockOut i) h e ≡ record { num = taken (ident x); turn = record { code = transferred; queue = q; woken = woken ok x ∷ [] } }
-      = rw (is-on layout (unlockOut i) h e m, o, l) (passed-on i (getD h 2 0) x q c) in
-      let u : Well (x ∷ q) = rw l at (v .queue) in
-      record {
-        code = d .code ∙ rw y refl;
-        owner = d .num ∙ rw y refl;
-        told = rw y at t;
-        others = d .queue ∙ rw y refl;
-        highest = u .sorted .0;
-      }
 
   gets : (g : Mutex → List ℕ → ℤ) → r ≡ on layout (getOut g) h e .turn .code → r ≡ g (layout .num h) (waiting e (getD h 3 0))
   gets g d = d ∙ rw (is-on layout (getOut g) h e m, inv-formed own (getD h 2 0) (waiting e (getD h 3 0)) v)

@@ -5,14 +5,15 @@ use mathlib.Core.Bool.{Bool, true, false}
 use mathlib.Core.List.{List, [], _∷_, _++_}
 use Prim.Native.Nat.{ℕ, zero, suc, _+_, _-_, _≤_, _<_}
 use lib.IntN.{ℤ, pos, negsuc}
-use lib.ListN.{length}
-use Rattle.seq.specs.List.{All}
+use lib.ListN.{length, getD}
 use Rattle.thread.specs.Code.{ok, eperm, ebusy, einval, eoverflow}
 use Rattle.thread.specs.Upstream.{Tells}
-use Rattle.wait_queue.specs.Queue.{ident, woken, NoLower, Well}
+use Rattle.wait_queue.specs.Queue.{ident, Well}
 use Rattle.wait_queue.specs.Turn.{waits}
+use Rattle.wait_queue.specs.Upstream.{FirstIsWoken}
 use Rattle.kind.specs.History.{Event, calls}
-use Rattle.mutex.specs.Mutex.{Owner, nobody, thread, Mutex, Call, tryLock, unlock, held, maxCount, released, unlocked, transferred, free, taken}
+use Rattle.kind.specs.Effect.{Leaves}
+use Rattle.mutex.specs.Mutex.{Owner, nobody, thread, Mutex, Call, tryLock, unlock, held, maxCount, released, unlocked, transferred, free, taken, counting}
 use Rattle.mutex.specs.Post.{ownerId, tryLockOut, unlockOut}
 use Rattle.mutex.specs.History.{fresh, after}
 
@@ -127,15 +128,15 @@ pub record Unlock (i : ℕ) (m : Mutex) (q : List ℕ) (r : ℤ) (m' : Mutex) (q
   -- and self.wait_q.len_spec() == 0
   pub last-waiters : m .owner ≡ thread i → m .count ≡ 1 → length q ≡ 0 → length q' ≡ 0
 
--- what unlock's clauses leave out, of a last unlock where somebody waits: x waited first, then q; w' is the woken thread's word
-pub record FirstOwns (x : ℕ) (q : List ℕ) (r : ℤ) (w' : ℕ) (m' : Mutex) (q' : List ℕ) : Type 0 where
-  pub code : r ≡ transferred
-  -- it is the first that owns it, with one lock, and it is handed out, with the result 0
-  pub owner : m' ≡ taken (ident x)
-  pub told : w' ≡ woken ok x
-  -- the others wait on, in their order, and none of them is of higher priority
-  pub others : q' ≡ q
-  pub highest : All (NoLower x) q
+-- what unlock's clauses leave out, of the owner's: the answer, and who becomes the owner and is woken. w is the word for the woken thread before
+-- the call, w' after it
+pub record Unlocks (i : ℕ) (m : Mutex) (q : List ℕ) (w : ℕ) (r : ℤ) (m' : Mutex) (q' : List ℕ) (w' : ℕ) : Type 0 where
+  -- one lock less; the same threads wait, in the same order, and the word stays as it was
+  pub nested : m .owner ≡ thread i → 1 < m .count → Leaves released (counting (m .count - 1) m) q r m' q' × (w' ≡ w)
+  -- the last, where somebody waits: the first owns it, with one lock, and is woken with the result 0
+  pub passed : m .owner ≡ thread i → m .count ≡ 1 → 0 < length q → (r ≡ transferred) × (m' ≡ taken (ident (getD q 0 0))) × FirstIsWoken ok q w' q'
+  -- the last, where nobody waits: it is free, and the word stays as it was
+  pub last : m .owner ≡ thread i → m .count ≡ 1 → length q ≡ 0 → Leaves unlocked free q r m' q' × (w' ≡ w)
 
 -- is_locked: true is 1, and false is 0
 pub record IsLocked (m : Mutex) (r : ℤ) : Type 0 where

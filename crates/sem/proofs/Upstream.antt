@@ -9,7 +9,7 @@ use native.Mathlib.Omega.{arith}
 use lib.Dec.{ltb, leb}
 use lib.IntN.{ℤ, pos}
 use lib.ListN.{length, getD, length-map}
-use borrow.Author.Tests.{lt-ltb, le-ltb, ltb-false, le-leb, leb-false}
+use borrow.Author.Tests.{lt-ltb, le-ltb, ltb-true, ltb-false, le-leb, leb-false}
 use Rattle.seq.specs.List.{any}
 use Rattle.seq.proofs.Order.{clash, length-insert}
 use Rattle.thread.specs.Code.{ok, eagain, ebusy, einval}
@@ -234,10 +234,10 @@ module _ (h e : List ℕ) (r : ℤ) (h' e' : List ℕ) (m : Housed layout h e) (
   gets g d = d ∙ rw (is-on layout (getOut g) h e m, form (getD h 0 0) (getD h 1 0) (waiting e (getD h 2 0)) i z)
 
   pub count-get : r ≡ on layout (getOut (λ s q. s .count)) h e .turn .code → CountGet (layout .num h) r
-  count-get d = record { is = gets (λ s q. s .count) d; under = i .under }
+  count-get d = record { result = getD h 0 0; is = gets (λ s q. s .count) d; counted = refl; under = i .under }
 
   pub limit-get : r ≡ on layout (getOut (λ s q. s .limit)) h e .turn .code → LimitGet (layout .num h) r
-  limit-get d = record { is = gets (λ s q. s .limit) d; above = i .limited }
+  limit-get d = record { result = getD h 1 0; is = gets (λ s q. s .limit) d; limited = refl; above = i .limited }
 
   pub num-waiters : r ≡ on layout (getOut (λ s q. length q)) h e .turn .code → NumWaiters (waiting e (getD h 2 0)) r
   num-waiters d = gets (λ s q. length q) d
@@ -280,9 +280,18 @@ give-take-roundtrip c l h =
       rw (g, lt-ltb 0 (suc c) (omega arith)),
     )
 
--- lemma_give_saturation: a give never brings the count above the limit
-pub give-saturation : (c l : ℕ) (q : List ℕ) → Inv (mk c l) q → Idle (mk c l) q → giveOut (mk c l) q .num .count ≤ l
-give-saturation c l q i z = let g = gives c l q i z in omega (arith, g .inv .under, g .limit)
+-- lemma_give_saturation: a give never brings the count above the limit, whoever waits
+pub give-saturation : (c l : ℕ) (q : List ℕ) → c ≤ l → giveOut (mk c l) q .num .count ≤ l
+give-saturation c l q h = go (formed (mk c l) (any q)) q refl
+  where
+    up : (b : Bool) → ltb c l ≡ b → formed (mk c l) false ≡ true → giveOut (mk c l) [] .num .count ≤ l
+    up true y f = rw (f, y) (ltb-true c l y)
+    up false y f = rw (f, y) h
+
+    go : (b : Bool) (m : List ℕ) → formed (mk c l) (any m) ≡ b → giveOut (mk c l) m .num .count ≤ l
+    go false m f = rw f h
+    go true [] f = up (ltb c l) refl f
+    go true (x ∷ m) f = rw f h
 
 -- lemma_reset_returns_to_clean_state claims this in its comment: a reset semaphore is a new one with count 0
 pub reset-clean : (c l room : ℕ) (q : List ℕ) → Inv (mk c l) q → Idle (mk c l) q → length q ≤ room

@@ -2,14 +2,16 @@
 use mathlib.Core.Path.{_≡_}
 use mathlib.Core.Bool.{Bool, true, false}
 use mathlib.Core.Logic.{_⊎_}
-use mathlib.Core.List.{List}
-use Prim.Native.Nat.{ℕ, _+_, _-_, _≤_, _<_}
+use mathlib.Core.List.{List, []}
+use Prim.Native.Nat.{ℕ, suc, _+_, _-_, _≤_, _<_}
 use lib.IntN.{ℤ, pos}
 use lib.ListN.{length}
-use Rattle.thread.specs.Code.{ok, ebusy, einval}
+use Rattle.thread.specs.Code.{ok, eagain, ebusy, einval}
 use Rattle.wait_queue.specs.Queue.{Well}
 use Rattle.wait_queue.specs.Turn.{waits}
-use Rattle.sem.specs.Sem.{Sem, woke, incremented, saturated}
+use Rattle.wait_queue.specs.Upstream.{FirstIsWoken, AllAreWoken}
+use Rattle.kind.specs.Effect.{Barred, Leaves}
+use Rattle.sem.specs.Sem.{Sem, woke, incremented, saturated, counting}
 
 -- Semaphore::inv
 pub record Inv (s : Sem) (q : List ℕ) : Type 0 where
@@ -62,6 +64,14 @@ pub record Give (s : Sem) (q : List ℕ) (r : ℤ) (s' : Sem) (q' : List ℕ) : 
   pub kept : 0 < length q → s' .count ≡ s .count
   pub fewer : 0 < length q → length q' ≡ length q - 1
 
+-- what give's clauses leave out is the answer, and who is woken: w is the word for the thread before the call, w' after it
+pub record Gives (s : Sem) (q : List ℕ) (w : ℕ) (r : ℤ) (s' : Sem) (q' : List ℕ) (w' : ℕ) : Type 0 where
+  -- somebody waits: the first is woken with the result 0, and no number changes
+  pub wakes : 0 < length q → (r ≡ woke) × (s' ≡ s) × FirstIsWoken ok q w' q'
+  -- nobody waits: one more is there, and at the limit nothing changes; the word stays as it was
+  pub increments : length q ≡ 0 → s .count < s .limit → Leaves incremented (counting (suc (s .count)) s) q r s' q' × (w' ≡ w)
+  pub saturates : length q ≡ 0 → s .limit ≤ s .count → Leaves saturated s q r s' q' × (w' ≡ w)
+
 -- try_take
 pub record TryTake (s : Sem) (q : List ℕ) (r : ℤ) (s' : Sem) (q' : List ℕ) : Type 0 where
   pub inv : Inv s' q'
@@ -90,14 +100,31 @@ pub record Reset (s : Sem) (q : List ℕ) (r : ℤ) (s' : Sem) (q' : List ℕ) :
   pub empty : length q' ≡ 0
   pub woken : r ≡ pos (length q)
 
--- count_get, limit_get, num_waiters
+-- what reset's clauses leave out is who is woken: out is the room to hand them out before the call, out' after it
+pub record Resets (s : Sem) (q h e out : List ℕ) (r : ℤ) (s' : Sem) (q' h' e' out' : List ℕ) : Type 0 where
+  -- all that waited, in their order, each with the result -11
+  pub all : length q ≤ length out → Leaves (pos (length q)) (counting 0 s) [] r s' q' × AllAreWoken eagain q out out'
+  -- with less room it is refused, and all wait on
+  pub short : length out < length q → Barred einval h e r h' e' × (out' ≡ out)
+
+-- count_get
 pub record CountGet (s : Sem) (r : ℤ) : Type 0 where
-  pub is : r ≡ pos (s .count)
-  pub under : s .count ≤ s .limit
+  pub result : ℕ
+  pub is : r ≡ pos result
+  -- result == self.count
+  pub counted : result ≡ s .count
+  -- result <= self.limit
+  pub under : result ≤ s .limit
 
+-- limit_get
 pub record LimitGet (s : Sem) (r : ℤ) : Type 0 where
-  pub is : r ≡ pos (s .limit)
-  pub above : 0 < s .limit
+  pub result : ℕ
+  pub is : r ≡ pos result
+  -- result == self.limit
+  pub limited : result ≡ s .limit
+  -- result > 0
+  pub above : 0 < result
 
+-- num_waiters: result == self.wait_q.len_spec()
 abbrev pub NumWaiters : List ℕ → ℤ → Type 0
 NumWaiters q r = r ≡ pos (length q)

@@ -11,7 +11,7 @@ use borrow.Author.Tests.{ltb-true, ltb-false}
 use Rattle.thread.specs.Code.{ok, einval}
 use Rattle.store.specs.Store.{Reply, Decided, looks}
 use Rattle.store.proofs.Laws.{decided, declined, looks-bad}
-use Rattle.timeout.specs.Timeout.{Timeout, never, later, fires, right, addDecide, announceDecide}
+use Rattle.timeout.specs.Timeout.{Timeout, never, later, fires, right, addDecide, abortDecide, announceDecide}
 use Rattle.timeout.specs.Post.{place, asked}
 use Rattle.timeout.specs.Upstream as upstream
 use Rattle.timeout.specs.Upstream.{Sum, AnnounceDecide}
@@ -35,7 +35,7 @@ sums c n m r m' d = go (ltb (c + n) never) refl
 pub add-decide : (c n m : ℕ) (r : ℤ) (m' : ℕ) → Decided (addDecide c n) m r m' → Sum c n r m'
 add-decide c n m r m' d = sums c n m r m' d
 
-pub abort-decide : (b r : Bool) → r ≡ b → upstream.AbortDecide b r
+pub abort-decide : (b r : Bool) → r ≡ abortDecide b → upstream.AbortDecide b r
 abort-decide b r e = e
 
 module _ (c n d m : ℕ) (b : Bool) (r : ℤ) (m' : ℕ) (q : Decided (announceDecide b d c n) m r m') where

@@ -11,10 +11,10 @@ use lib.ListN.{length, getD}
 use borrow.Author.Tests.{ltb-true, lt-ltb, le-ltb, le-leb}
 use Rattle.seq.proofs.Order.{cond-same}
 use Rattle.thread.specs.Code.{ok, ebusy, einval}
-use Rattle.store.specs.Store.{Reply, answer, left, settled, reply, Did, Started}
+use Rattle.store.specs.Store.{Reply, accept, answer, left, settled, reply, Did, Started}
 use Rattle.store.proofs.Laws.{answers, replies, kept-bad, kept-no}
 use Rattle.store.proofs.Histories.{done}
-use Rattle.timeout.specs.Timeout.{Timeout, timeout, never, right, arm, add, addAbsolute, addForever, addNoWait, abort, announce, fresh, may}
+use Rattle.timeout.specs.Timeout.{Timeout, timeout, never, atOnce, right, addDecide, absolute, arm, add, addAbsolute, addForever, addNoWait, abort, announce, fresh, may}
 use Rattle.timeout.specs.Post.{place}
 use Rattle.timeout.specs.Upstream.{Inv, Init, Add, AddAbsolute, AddFixed, Abort, Announce}
 use Rattle.timeout.proofs.Numbers.{right-idle, right-at-once, right-ahead}
@@ -58,10 +58,23 @@ module _ (h h' : List ℕ) (r : ℤ) where
   refuses f e d = let z = kept-bad place f h [] d e in (z .0, z .1)
 
   module _ (k : 3 ≤ length h) (i : Inv (place .object h [])) where
-    pub active-refuses : (y : Timeout → Reply ℕ) → 0 < getD h 1 0 → Did place (λ t. arm (y t) t) h [] r h' [] → (r ≡ ebusy) × (h' ≡ h)
-    active-refuses y b d =
+    busy : (y : Timeout → Reply ℕ) → 0 < getD h 1 0 → Did place (λ t. arm (y t) t) h [] r h' [] → (r ≡ ebusy) × (h' ≡ h)
+    busy y b d =
         let z = kept-no place (λ t. arm (y t) t) h [] d (inv-formed h k i) (set-busy (getD h 0 0) (getD h 1 0) (getD h 2 0) (y (place .object h [])) b) in
         (z .0, z .1)
+
+    module _ (b : 0 < getD h 1 0) where
+      pub add-refuses : (n : ℕ) → Did place (add n) h [] r h' [] → (r ≡ ebusy) × (h' ≡ h)
+      add-refuses n d = busy (λ t. addDecide (t .clock) n) b d
+
+      pub add-absolute-refuses : (x : ℕ) → Did place (addAbsolute x) h [] r h' [] → (r ≡ ebusy) × (h' ≡ h)
+      add-absolute-refuses x d = busy (λ t. absolute x (t .clock)) b d
+
+      pub add-forever-refuses : Did place addForever h [] r h' [] → (r ≡ ebusy) × (h' ≡ h)
+      add-forever-refuses d = busy (λ t. accept never ok) b d
+
+      pub add-no-wait-refuses : Did place addNoWait h [] r h' [] → (r ≡ ebusy) × (h' ≡ h)
+      add-no-wait-refuses d = busy (λ t. accept atOnce ok) b d
 
     -- what holds of the operation holds of the memory
     holds : (f : Timeout → Reply Timeout) (R : ℤ → Timeout → Type 0) → Did place f h [] r h' []

@@ -9,10 +9,10 @@ use native.Mathlib.Numerals.{add-one}
 use lib.Dec.{eqb}
 use lib.IntN.{ℤ, pos, negsuc}
 use lib.ListN.{length, getD}
-use borrow.Author.Tests.{le-leb, lt-leb, eqb-true, eqb-false}
-use Rattle.thread.specs.Code.{einval}
-use Rattle.store.specs.Store.{Reply, answer, left, Did, looks, Started}
-use Rattle.store.proofs.Laws.{answers, kept-bad, looks-is, looks-bad}
+use borrow.Author.Tests.{le-leb, lt-leb, leb-true, eqb-true, eqb-false}
+use Rattle.thread.specs.Code.{einval, eoverflow}
+use Rattle.store.specs.Store.{Reply, refuse, answer, left, Did, looks, Started}
+use Rattle.store.proofs.Laws.{answers, kept-bad, kept-no, looks-is, looks-bad}
 use Rattle.store.proofs.Histories.{done}
 use Rattle.timer.specs.Timer.{Timer, timer, most, start, stop, expire, statusGet, count, ticks, runs, fresh}
 use Rattle.timer.specs.Post.{place}
@@ -70,6 +70,17 @@ module _ (h h' : List ℕ) (r : ℤ) where
         let e = le-leb 3 (length h) k in
         subst (λ (t : Timer). R r t) (sym (done place f h [] e d .1))
         (subst (λ (z : ℤ). R z (left (f (place .object h [])) (place .object h []))) (sym (answers place f h [] d e)) a)
+
+    -- upstream's invariant is `true`; ours is kept by each call
+    pub inv-kept : (f : Timer → Reply Timer) → Did place f h [] r h' [] → 3 ≤ length h'
+    inv-kept f d = leb-true 3 (length h') (done place f h [] (le-leb 3 (length h) k) d .0)
+
+    -- an expiry that the count has no room for: no word changes
+    pub expire-refuses : getD h 0 0 ≡ most → Did place expire h [] r h' [] → (r ≡ eoverflow) × (h' ≡ h)
+    expire-refuses e d =
+        let y : expire (place .object h []) ≡ refuse eoverflow = rw e in
+        let z = kept-no place expire h [] d (le-leb 3 (length h) k) y in
+        (z .0, z .1)
 
     pub timer-start : Did place start h [] r h' [] → Start (place .object h []) (place .object h' [])
     timer-start d = holds start (λ z t. Start (place .object h []) t) d (record { period = refl; status = refl; running = λ e. omega arith })

@@ -13,7 +13,7 @@ use Rattle.waitqueue.proofs.threads.wq_priority_new.Statement.{statemen
 use Rattle.waitqueue.proofs.threads.wq_priority_new.Tie as tie
 
 made : (v : ℕ) (p : Priority) → newPriority v ≡ Made p → priorityGet (p .value) ≡ pos (p .value)
-made v p e = let h = rw e at (priority-new v) in rw (lt-ltb (p .value) 32 (h .0))
+made v p e = rw (lt-ltb (p .value) 32 (priority-new v (Made p) (sym e) .0))
 
 new-requires : tie.Need-new-requires
 new-requires c κs = search needs
