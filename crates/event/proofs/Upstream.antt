@@ -13,7 +13,7 @@ use lib.ListN.{length, getD}
 use Rattle.seq.proofs.Bits.{bits-lt}
 use Rattle.thread.specs.Code.{ok, einval}
 use Rattle.store.specs.Store.{Reply, accept, answer, Did, looks, Started}
-use Rattle.store.proofs.Laws.{became, answers, kept-bad, looks-is}
+use Rattle.store.proofs.Laws.{became, answers, kept-bad, looks-is, looks-bad}
 use Rattle.event.specs.Event.{width, post, set, setMasked, clear, anyThere, allThere, told}
 use Rattle.event.specs.Post.{place}
 use Rattle.event.specs.Upstream.{Inv, Init, Post, Set, SetMasked, Clear, WaitCheckAny, WaitCheckAll, EventsGet}
@@ -35,6 +35,9 @@ module _ (h : List ℕ) (r : ℤ) (h' : List ℕ) where
   -- what is too short for a word of flags is refused, and stays
   pub event-refuses : (f : ℕ → Reply ℕ) → length h < 1 → Did place f h [] r h' [] → (r ≡ einval) × (h' ≡ h)
   event-refuses f k d = let y = kept-bad place f h [] d (lt-leb 1 (length h) k) in (y .0, y .1)
+
+  pub get-refuses : (f : ℕ → ℤ) → length h < 1 → r ≡ looks place f h [] → r ≡ einval
+  get-refuses f k d = d ∙ looks-bad place h [] f (lt-leb 1 (length h) k)
 
   module _ (k : 1 ≤ length h) where
     -- the word that a call leaves, and its answer

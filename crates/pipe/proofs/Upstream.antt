@@ -157,34 +157,34 @@ module _ (h b : List ℕ) (f : formed h b ≡ true) where
   good : Formed h b
   good = from-formed h b f
 
-  pub pipe-space : SpaceGet (object h b) (looks layout space h b)
-  pipe-space = looks-is layout h b space f ∙ ap pos (spare-is h b (good .ring) ∙ ap (λ (n : ℕ). getD h 0 0 - n) (sym (held-is h b (good .ring))))
+  pub pipe-space : {r : ℤ} → r ≡ looks layout space h b → SpaceGet (object h b) r
+  pipe-space d = d ∙ looks-is layout h b space f ∙ ap pos (spare-is h b (good .ring) ∙ ap (λ (n : ℕ). getD h 0 0 - n) (sym (held-is h b (good .ring))))
 
-  pub pipe-data : DataGet (object h b) (looks layout data-held h b)
-  pipe-data = looks-is layout h b data-held f
+  pub pipe-data : {r : ℤ} → r ≡ looks layout data-held h b → DataGet (object h b) r
+  pipe-data d = d ∙ looks-is layout h b data-held f
 
-  pub pipe-size : SizeGet (object h b) (looks layout sizeOf h b)
-  pipe-size = looks-is layout h b sizeOf f
+  pub pipe-size : {r : ℤ} → r ≡ looks layout sizeOf h b → SizeGet (object h b) r
+  pipe-size d = d ∙ looks-is layout h b sizeOf f
 
-  pub pipe-empty : IsEmpty (object h b) (looks layout isEmpty h b)
-  pipe-empty = looks-is layout h b isEmpty f ∙ go (object h b .ring .held)
+  pub pipe-empty : {r : ℤ} → r ≡ looks layout isEmpty h b → IsEmpty (object h b) r
+  pipe-empty d = d ∙ looks-is layout h b isEmpty f ∙ go (object h b .ring .held)
     where
       go : (l : List ℕ) → cond (any l) (pos 0) (pos 1) ≡ flag (eqb (length l) 0)
       go [] = refl
       go (x ∷ l) = rw (ne-eqb (suc (length l)) 0 (λ e. omega arith))
 
-  pub pipe-full : IsFull (object h b) (looks layout isFull h b)
-  pipe-full = looks-is layout h b isFull f ∙ go (object h b .ring .spare) (spare-is h b (good .ring)) (held-is h b (good .ring))
+  pub pipe-full : {r : ℤ} → r ≡ looks layout isFull h b → IsFull (object h b) r
+  pipe-full d = d ∙ looks-is layout h b isFull f ∙ go (object h b .ring .spare) (spare-is h b (good .ring)) (held-is h b (good .ring))
     where
       go : (l : List ℕ) → length l ≡ getD h 0 0 - getD h 2 0 → used (object h b) ≡ getD h 2 0 → cond (any l) (pos 0) (pos 1) ≡ flag (eqb (used (object h b)) (size (object h b)))
       go [] e u = rw (eq-eqb (used (object h b)) (getD h 0 0) (omega (arith, good .ring .size)))
       go (x ∷ l) e u = rw (ne-eqb (used (object h b)) (getD h 0 0) (λ z. omega arith))
 
-  pub pipe-open : IsOpen (object h b) (looks layout (λ p. flag (p .opened)) h b)
-  pipe-open = looks-is layout h b (λ p. flag (p .opened)) f
+  pub pipe-open : {r : ℤ} → r ≡ looks layout (λ p. flag (p .opened)) h b → IsOpen (object h b) r
+  pipe-open d = d ∙ looks-is layout h b (λ p. flag (p .opened)) f
 
-  pub pipe-resetting : IsResetting (object h b) (looks layout (λ p. flag (p .resetting)) h b)
-  pipe-resetting = looks-is layout h b (λ p. flag (p .resetting)) f
+  pub pipe-resetting : {r : ℤ} → r ≡ looks layout (λ p. flag (p .resetting)) h b → IsResetting (object h b) r
+  pipe-resetting d = d ∙ looks-is layout h b (λ p. flag (p .resetting)) f
 
   pub conservation : Conservation (object h b)
   conservation =
@@ -193,8 +193,8 @@ module _ (h b : List ℕ) (f : formed h b ≡ true) where
       record { numbers = omega (arith, good .ring .size); bytes = omega (arith, good .ring .size) }
 
 -- what is told of a malformed pipe
-pub told-refuses : (g : Pipe → ℤ) (h b : List ℕ) → formed h b ≡ false → looks layout g h b ≡ einval
-told-refuses g h b e = looks-bad layout h b g e
+pub told-refuses : (g : Pipe → ℤ) (h b : List ℕ) {r : ℤ} → formed h b ≡ false → r ≡ looks layout g h b → r ≡ einval
+told-refuses g h b e d = d ∙ looks-bad layout h b g e
 
 -- ---- the decide functions
 
