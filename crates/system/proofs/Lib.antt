@@ -23,7 +23,12 @@ pub mod MutexCalls
 pub mod Mutexes
 pub mod MutexExample
 pub mod Theorems
+pub mod Parts
 pub mod Woken
 pub mod Link
+pub mod Callers
 pub mod Functions
+pub mod Inits
+pub mod Waiting
+pub mod WaitBlocking
 pub mod Example

@@ -1,7 +1,7 @@
 -- What a member of a system has to prove, so that its data sheet holds of our step and of no other kernel; a sum of members has proved it.
 -- Assumes nothing.
 use mathlib.Core.Path.{_≡_, refl, ap, _∙_}
-use mathlib.Core.Bool.{true}
+use mathlib.Core.Bool.{Bool, true}
 use mathlib.Core.Logic.{_⊎_, inl, inr}
 use mathlib.Core.List.{List}
 use Prim.Native.Nat.{ℕ}
@@ -19,6 +19,9 @@ use Rattle.system.proofs.Sum.{sum-lawful}
 pub record Fits {A K : Kind} (P : Part A K) : Type 0 where
   pub decides : (n : A .Num) (v : ℕ → K .Wish) (q : List ℕ) (w : ℕ) (k : A .Call)
       → K .decide (P .num n) v q w (P .call k) ≡ mapped (P .num) (P .wish) (A .decide n (λ t. P .seen (v t)) q w k)
+  -- its numbers are as they should be, and can be made, where the kind says so
+  pub formed : (n : A .Num) (w : Bool) → K .formed (P .num n) w ≡ A .formed n w
+  pub new : (n : A .Num) → K .new (P .num n) ≡ A .new n
 
 -- verdicts in words of the whole
 mapped-same : {N X : Type 0} (d : Verdict N X) → d ≡ mapped (λ n. n) (λ x. x) d
@@ -35,7 +38,7 @@ mapped-twice f g a b (allow n (park x) r) = refl
 mapped-twice f g a b (allow n (wake p h) r) = refl
 
 pub whole-fits : (K : Kind) → Fits (whole K)
-whole-fits K = record { decides = λ n v q w k. mapped-same (K .decide n v q w k) }
+whole-fits K = record { decides = λ n v q w k. mapped-same (K .decide n v q w k); formed = λ n w. refl; new = λ n. refl }
 
 module _ (A B : Member) {K : Kind} (P : Part ((A ⊕ B) .kind) K) (h : Fits P) where
   pub left-fits : Fits (inLeft A B P)
@@ -44,6 +47,8 @@ module _ (A B : Member) {K : Kind} (P : Part ((A ⊕ B) .kind) K) (h : Fits P) w
         decides =
             λ n v q w k.
             h .decides (inl n) v q w (inl k) ∙ mapped-twice inl (P .num) inl (P .wish) (A .kind .decide n (λ t. onLeft (A .idle) (P .seen (v t))) q w k);
+        formed = λ n w. h .formed (inl n) w;
+        new = λ n. h .new (inl n);
       }
 
   pub right-fits : Fits (inRight A B P)
@@ -52,6 +57,8 @@ module _ (A B : Member) {K : Kind} (P : Part ((A ⊕ B) .kind) K) (h : Fits P) w
         decides =
             λ n v q w k.
             h .decides (inr n) v q w (inr k) ∙ mapped-twice inr (P .num) inr (P .wish) (B .kind .decide n (λ t. onRight (B .idle) (P .seen (v t))) q w k);
+        formed = λ n w. h .formed (inr n) w;
+        new = λ n. h .new (inr n);
       }
 
 pub record Sheet (M : Member) : Type 1 where

@@ -1,37 +1,47 @@
--- The words that a call hands out are those of the threads that it makes ready. Assumes nothing.
-use mathlib.Core.Path.{_≡_, refl, sym, ap, subst, _∙_}
+-- The words that a call hands out are those of the threads that the step wakes, and these are made ready. Assumes nothing.
+use mathlib.Core.Path.{_≡_, refl, sym, subst, _∙_}
 use mathlib.Core.Bool.{Bool, true, false, cond}
 use mathlib.Core.List.{List, [], _∷_, map}
-use Prim.Native.Nat.{ℕ}
+use Prim.Native.Nat.{ℕ, _≤_}
 use native.Mathlib.Omega.{arith}
 use lib.Dec.{eqb, ltb}
 use lib.IntN.{ℤ, pos, negsuc}
-use lib.ListN.{length}
+use lib.ListN.{length, length-map}
 use borrow.Author.Tests.{eq-eqb, ne-eqb}
-use Rattle.seq.specs.Word.{word}
+use Rattle.seq.specs.Word as half
 use Rattle.seq.specs.List.{All}
 use Rattle.thread.specs.Code.{enomem, ebusy}
 use Rattle.thread.specs.Caller.{callerCode}
 use Rattle.wait_queue.specs.Queue.{maxWaiters, entry, ident, holds, joined}
 use Rattle.wait_queue.specs.Queue as queue
 use Rattle.wait_queue.specs.Turn.{refuse, waits, parked}
-use Rattle.wait_queue.proofs.Answers.{ident-entry}
 use Rattle.kind.specs.Verdict.{Pick, gone, keep, park, wake, Verdict, deny, allow}
 use Rattle.kind.specs.Kind.{Kind}
-use Rattle.kind.specs.Object.{Out, thread, carried}
-use Rattle.condvar.specs.Post.{Allowed}
-use Rattle.system.specs.System.{running, ready, number, object, Sys, unless, serve, outcome, verdict, visited, called}
+use Rattle.kind.specs.Object.{Out, refused, thread, carried}
+use Rattle.system.specs.Sum.{mapped}
+use Rattle.system.specs.System.{ready, number, Slot, object, Sys, Woken, deed, woken, unless, serve, outcome, verdict, visited, called}
 use Rattle.system.specs.Rules.{Fine}
-use Rattle.system.specs.Link.{Readied, HandsOut}
+use Rattle.system.specs.Link.{word, Readies}
 use Rattle.system.proofs.Calls.{barred, granted}
 
--- the words of the woken threads
-told : (r : ℤ) (x : ℕ) → ident (queue.woken r x) ≡ ident x
-told r x = ident-entry (word r) (ident x) (omega arith)
+-- a verdict wakes by an answer that is no refusal, and m n at most where n wait
+abbrev pub Within : {N W : Type 0} → (ℕ → ℕ) → Verdict N W → Type 0
+Within m (deny r) = Unit {0}
+Within m (allow n keep r) = Unit {0}
+Within m (allow n (park x) r) = Unit {0}
+Within m (allow n (wake p f) (pos c)) = (q : List ℕ) → length (gone ident p q) ≤ m (length q)
+Within m (allow n (wake p f) (negsuc c)) = ⊥
 
-told-holds : (f : ℕ → ℤ) (t : ℕ) (l : List ℕ) → holds t (map (λ x. queue.woken (f (ident x)) x) l) ≡ holds t l
-told-holds f t [] = refl
-told-holds f t (x ∷ l) = rw (told (f (ident x)) x, told-holds f t l)
+pub within : {N W : Type 0} (m : ℕ → ℕ) (b : Bool) (d e : Verdict N W) → Within m d → Within m e → Within m (cond b d e)
+within m true d e x y = x
+within m false d e x y = y
+
+pub within-part : {M N X Y : Type 0} (f : M → N) (g : X → Y) (m : ℕ → ℕ) (d : Verdict M X) → Within m d → Within m (mapped f g d)
+within-part f g m (deny r) x = x
+within-part f g m (allow n keep r) x = x
+within-part f g m (allow n (park y) r) x = x
+within-part f g m (allow n (wake p h) (pos c)) x = x
+within-part f g m (allow n (wake p h) (negsuc c)) x = absurd x
 
 -- who waits wakes nobody
 pub parked-none : (w : ℕ) (q : List ℕ) → parked w q .woken ≡ []
@@ -42,73 +52,81 @@ parked-none w q = go (holds (ident w) q) (ltb (length q) maxWaiters)
     go false true = refl
     go false false = refl
 
+words : (f : ℕ → ℤ) (l : List ℕ) → map (λ x. queue.woken (f (ident x)) x) l ≡ map word (map (λ x. record { thread = ident x; result = f (ident x) }) l)
+words f [] = refl
+words f (x ∷ l) =
+    let e : ident (ident x) ≡ ident x = omega arith in
+    rw (words f l, e)
+
+unless-none : (z : ℤ) → unless {A = List Woken} z [] [] ≡ []
+unless-none (pos c) = refl
+unless-none (negsuc c) = refl
+
 module _ {K : Kind} (s : Sys K) (g : Fine s) (i o : ℕ) (k : K .Call) (n : K .Num) (h : s .slot o ≡ object n) where
   abbrev q : List ℕ
   q = s .queue o
 
-  module _ (u : Out (K .Num)) (m : K .Num) (p : Pick) (f : ℕ → ℤ) (r : ℤ) where
-    abbrev then : Sys K
-    then = serve s i o (allow m (wake p f) r) u
+  abbrev l : List Woken
+  l = called s i o k .2
 
-    awake : (l : List ℕ) → ((t : ℕ) → holds t l ≡ true → holds t (gone ident p q) ≡ true) → All (Readied then) (map (λ x. queue.woken (f (ident x)) x) l)
-    awake [] a = tt
-    awake (x ∷ l) a =
-        let y : holds (ident x) (gone ident p q) ≡ true = a (ident x) (rw (eq-eqb (ident x) (ident x) refl) refl) in (
-          record {
-            result = f (ident x);
-            state = rw (told (f (ident x)) x, y);
-            word = rw (told (f (ident x)) x) refl;
-          },
-          awake l (λ t z. a t (go (eqb (ident x) t) t z)),
-        )
+  told : (m : ℕ → ℕ) (d : Verdict (K .Num) (K .Wish)) → Within m d
+      → carried (thread i (s .prio i) 1) d n q .turn .woken ≡ map word (unless (carried (thread i (s .prio i) 1) d n q .turn .code) [] (woken (deed d) q))
+  told m (deny r) x = rw (unless-none r) refl
+  told m (allow a keep r) x = rw (unless-none r) refl
+  told m (allow a (park y) r) x =
+      parked-none (entry (s .prio i) i) q ∙ rw (unless-none (parked (entry (s .prio i) i) q .code)) refl
+  told m (allow a (wake p f) (pos c)) x = words f (gone ident p q)
+  told m (allow a (wake p f) (negsuc c)) x = absurd x
+
+  few : (m : ℕ → ℕ) (d : Verdict (K .Num) (K .Wish)) (z : ℤ) → Within m d → length (unless z [] (woken (deed d) q)) ≤ m (length q)
+  few m d (negsuc c) x = omega arith
+  few m (deny r) (pos c) x = omega arith
+  few m (allow a keep r) (pos c) x = omega arith
+  few m (allow a (park y) r) (pos c) x = omega arith
+  few m (allow a (wake p f) (pos r)) (pos c) x =
+      let e : length (woken {W = K .Wish} (wake p f) q) ≡ length (gone ident p q) = length-map (gone ident p q) _ in
+      omega (arith, e, x q)
+  few m (allow a (wake p f) (negsuc r)) (pos c) x = absurd x
+
+  -- a verdict that wakes says so
+  module _ (m : ℕ → ℕ) (x : Within m (verdict s i o k n)) where
+    -- the words of the outcome are those of the step, and not too many
+    pub handed-out : outcome s i o k n .turn .woken ≡ map word l
+    handed-out =
+        subst (λ (y : Slot (K .Num)). outcome s i o k n .turn .woken ≡ map word (visited y s i o k .2)) (sym h) (go (callerCode (s .prio i) (number (s .state i))) refl)
       where
-        go : (b : Bool) (t : ℕ) → holds t l ≡ true → cond b true (holds t l) ≡ true
-        go true t z = refl
-        go false t z = z
+        go : (z : ℤ) → callerCode (s .prio i) (number (s .state i)) ≡ z
+            → outcome s i o k n .turn .woken ≡ map word (unless (outcome s i o k n .turn .code) [] (woken (deed (verdict s i o k n)) q))
+        go (negsuc c) z = rw (barred s i o k n (g .formed o n h) c z) refl
+        go (pos c) z = rw (granted s i o k n (g .formed o n h) c z) (told m (verdict s i o k n) x)
 
-  by-verdict : (d : Verdict (K .Num) (K .Wish)) (u : Out (K .Num)) → HandsOut s i (serve s i o d u) (carried (thread i (s .prio i) 1) d n q .turn .woken)
-  by-verdict (deny r) u = record { ready = tt; others = λ t z x. refl }
-  by-verdict (allow m keep r) u = record { ready = tt; others = λ t z x. refl }
-  by-verdict (allow m (park y) r) u =
-      record { ready = rw (parked-none (entry (s .prio i) i) q) tt; others = λ t z x. rw (ne-eqb i t x) }
-  by-verdict (allow m (wake p f) r) u =
-      record {
-        ready = awake u m p f r (gone ident p q) (λ t z. z);
-        others = λ t z x. rw (sym (told-holds f t (gone ident p q)) ∙ z);
-      }
+    pub handed-few : length l ≤ m (length q)
+    handed-few = subst (λ (y : Slot (K .Num)). length (visited y s i o k .2) ≤ m (length q)) (sym h) (few m (verdict s i o k n) (outcome s i o k n .turn .code) x)
 
-  pub call-wakes : Allowed (outcome s i o k n .turn .code) (HandsOut s i (called s i o k .0) (outcome s i o k n .turn .woken))
-  call-wakes = rw h (go (callerCode (s .prio i) (number (s .state i))) refl)
+  off : (t : ℕ) (f : ℕ → ℤ) (y : List ℕ) → All (λ (w : Woken). w .thread ≡ t → ⊥) (map (λ x. record { thread = ident x; result = f (ident x) }) y) → holds t y ≡ false
+  off t f [] a = refl
+  off t f (x ∷ y) a = rw (ne-eqb (ident x) t (a .0), off t f y (a .1))
+
+  -- who is woken is made ready, and no other changes but the caller
+  pub call-readies : Readies s i l (called s i o k .0)
+  call-readies =
+      subst (λ (y : Slot (K .Num)). Readies s i (visited y s i o k .2) (visited y s i o k .0)) (sym h) (go (outcome s i o k n .turn .code) (verdict s i o k n))
     where
-      by : (z : ℤ) (d : Verdict (K .Num) (K .Wish)) (u : Out (K .Num)) (w : List ℕ) → HandsOut s i (serve s i o d u) w → Allowed z (HandsOut s i (unless z s (serve s i o d u)) w)
-      by (pos c) d u w x = x
-      by (negsuc c) d u w x = tt
+      awake : (m : K .Num) (p : Pick) (f : ℕ → ℤ) (r : ℤ) (y : List ℕ) → ((t : ℕ) → holds t y ≡ true → holds t (gone ident p q) ≡ true)
+          → All (λ (w : Woken). serve s i o (allow m (wake p f) r) (outcome s i o k n) .state (w .thread) ≡ ready (w .result)) (map (λ x. record { thread = ident x; result = f (ident x) }) y)
+      awake m p f r [] a = tt
+      awake m p f r (x ∷ y) a =
+          let e : holds (ident x) (gone ident p q) ≡ true = a (ident x) (rw (eq-eqb (ident x) (ident x) refl) refl) in
+          (rw e, awake m p f r y (λ t z. a t (by (eqb (ident x) t) t z)))
+        where
+          by : (b : Bool) (t : ℕ) → holds t y ≡ true → cond b true (holds t y) ≡ true
+          by true t z = refl
+          by false t z = z
 
-      go : (z : ℤ) → callerCode (s .prio i) (number (s .state i)) ≡ z
-          → Allowed (outcome s i o k n .turn .code) (HandsOut s i (visited (object n) s i o k .0) (outcome s i o k n .turn .woken))
-      go (negsuc c) z = rw (barred s i o k n (g .formed o n h) c z) tt
-      go (pos c) z =
-          by (outcome s i o k n .turn .code) (verdict s i o k n) (outcome s i o k n) (outcome s i o k n .turn .woken)
-          (subst (λ (w : List ℕ). HandsOut s i (serve s i o (verdict s i o k n) (outcome s i o k n)) w) (sym (ap (λ (y : Out (K .Num)). y .turn .woken) (granted s i o k n (g .formed o n h) c z)))
-          (by-verdict (verdict s i o k n) (outcome s i o k n)))
-
--- one call after another, of which the second wakes nobody, by a thread that still runs between them
-pub wakes-on : {K : Kind} (s t u : Sys K) (i : ℕ) (y : List ℕ) → t .state i ≡ running → HandsOut s i t y → HandsOut t i u [] → HandsOut s i u y
-wakes-on {K} s t u i y run a b =
-    record { ready = all y (a .ready); others = λ x z n. b .others x refl n ∙ a .others x z n }
-  where
-    off : (x : ℕ) (r : ℤ) → t .state x ≡ ready r → i ≡ x → ⊥
-    off x r z e =
-        let v : running ≡ ready r = sym run ∙ ap (λ (l : ℕ). t .state l) e ∙ z in
-        absurd (let l : _≡_ {A = ℕ} 0 1 = cc in omega arith)
-
-    all : (l : List ℕ) → All (Readied t) l → All (Readied u) l
-    all [] z = tt
-    all (x ∷ l) z = (
-      record {
-        result = z .0 .result;
-        state = b .others (ident x) refl (off (ident x) (z .0 .result) (z .0 .state)) ∙ z .0 .state;
-        word = z .0 .word;
-      },
-      all l (z .1),
-    )
+      go : (z : ℤ) (d : Verdict (K .Num) (K .Wish)) → Readies s i (unless z [] (woken (deed d) q)) (unless z s (serve s i o d (outcome s i o k n)))
+      go (negsuc c) d = record { ready = tt; others = λ t a x. refl }
+      go (pos c) (deny r) = record { ready = tt; others = λ t a x. refl }
+      go (pos c) (allow m keep r) = record { ready = tt; others = λ t a x. refl }
+      go (pos c) (allow m (park y) r) = record { ready = tt; others = λ t a x. rw (ne-eqb i t x) }
+      go (pos c) (allow m (wake p f) r) =
+          record { ready = awake m p f r (gone ident p q) (λ t z. z); others = λ t a x. rw (off t f (gone ident p q) a) }

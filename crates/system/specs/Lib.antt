@@ -14,4 +14,5 @@ pub mod Mutexes
 pub mod Laws
 pub mod Determined
 pub mod Theorems
+pub mod Functions
 pub mod Link
