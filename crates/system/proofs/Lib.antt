@@ -31,4 +31,7 @@ pub mod Functions
 pub mod Inits
 pub mod Waiting
 pub mod WaitBlocking
+pub mod Elsewhere
+pub mod Worlds
+pub mod Library
 pub mod Example

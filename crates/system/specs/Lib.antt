@@ -16,3 +16,5 @@ pub mod Determined
 pub mod Theorems
 pub mod Functions
 pub mod Link
+pub mod World
+pub mod Library

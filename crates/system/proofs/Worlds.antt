@@ -1,0 +1,143 @@
+-- A history of calls of the code on objects in memory is a history of the system. Assumes nothing.
+use mathlib.Core.Path.{_≡_, refl, sym, subst, ap, _∙_}
+use mathlib.Core.Bool.{Bool, true, false}
+use mathlib.Core.List.{List, [], _∷_}
+use Prim.Native.Nat.{ℕ, _<_}
+use native.Mathlib.Omega.{arith}
+use lib.Dec.{eqb}
+use lib.IntN.{ℤ, pos, negsuc}
+use lib.ListN.{set}
+use borrow.Author.Tests.{eqb-true, eqb-false}
+use Rattle.seq.specs.List.{All}
+use Rattle.thread.specs.Code.{ok}
+use Rattle.kind.specs.Kind.{Kind, Lawful}
+use Rattle.condvar.specs.Post.{Allowed}
+use Rattle.system.specs.System.{State, waiting, object, Sys, Woken, expired, both, expire, create, left, created, done, denied, reply, step, after, called}
+use Rattle.system.specs.Rules.{Fine}
+use Rattle.system.specs.Functions.{Memory, Use}
+use Rattle.system.specs.Link.{Is, Handed, Links, LinksBoth, Steps, Pairs, Turns}
+use Rattle.system.specs.World.{Library, World, Event, ops, Elsewhere, Holds, Shows, Happens, calls, pairs, inits, removes, moves, Ran, begun, then, Agree, Follows, Histories}
+use Rattle.system.proofs.Steps.{step-fine}
+use Rattle.system.proofs.Sheets.{Fits}
+use Rattle.system.proofs.Link.{is-kept}
+use Rattle.system.proofs.Inits.{makes, expires}
+use Rattle.system.proofs.Elsewhere.{Kept, call-kept, both-kept, left-kept, create-kept, create-silent, create-denied, moves-kept}
+
+-- what is proved of each function, and of where each object stands in its header
+pub record Linked {K : Kind} (C : Library K) : Type 0 where
+  pub lawful : Lawful K
+  pub fits : (x : C .Sort) → Fits (C .class x .part)
+  pub links : (x : C .Sort) (f : C .class x .code .Fn) → Links (C .class x .part) (C .class x .code .layout) (C .class x .code .function f)
+  pub double : (t : C .Two)
+      → LinksBoth (C .class (C .first t) .part) (C .class (C .first t) .code .layout) (C .class (C .second t) .part) (C .class (C .second t) .code .layout) (C .double t)
+  pub told : (x : C .Sort) (n : C .class x .kind .Num) → C .class x .code .Told n → C .class x .kind .new n ≡ C .class x .kind .formed n false
+  pub beside : (x : C .Sort) (h : List ℕ) (k : ℕ) → C .class x .code .layout .num (set h (C .class x .code .layout .len) k) ≡ C .class x .code .layout .num h
+  pub own : (x : C .Sort) → C .class x .code .layout .len < C .class x .code .layout .words
+
+module _ {K : Kind} (C : Library K) (linked : Linked C) (sort : ℕ → C .Sort) where
+  -- one event
+  module _ (s : Sys K) (g : Fine s) (w w' : World) (shows : Shows C sort s w) where
+    abbrev There : Sys K → ℕ → Type 0
+    There t x = (n : K .Num) → t .slot x ≡ object n → Holds C sort t x (w' x)
+
+    -- an object that is not touched
+    stays : (t : Sys K) (x : ℕ) → Kept s t x → w' x ≡ w x → There t x
+    stays t x k e n z =
+        subst (λ (m : Memory). Holds C sort t x m) (sym e)
+        (is-kept (C .class (sort x) .code .layout) (C .class (sort x) .part .num) s t x (w x .header) (w x .entries) (k .slot) (k .queue) (shows x n (sym (k .slot) ∙ z)))
+
+    -- one is touched, and the others stay; two are
+    one-touched : (t : Sys K) (o : ℕ) → There t o → ((x : ℕ) → (o ≡ x → ⊥) → Kept s t x) → Elsewhere (o ∷ []) w w' → (x : ℕ) → There t x
+    one-touched t o here kept off x = go (eqb o x) refl
+      where
+        go : (b : Bool) → eqb o x ≡ b → There t x
+        go true e = subst (λ (y : ℕ). There t y) (eqb-true o x e) here
+        go false e = stays t x (kept x (eqb-false o x e)) (off x (eqb-false o x e, tt))
+
+    two-touched : (t : Sys K) (a b : ℕ) → There t a → There t b → ((x : ℕ) → (a ≡ x → ⊥) → (b ≡ x → ⊥) → Kept s t x) → Elsewhere (a ∷ b ∷ []) w w' → (x : ℕ) → There t x
+    two-touched t a b here there kept off x = go (eqb a x) (eqb b x) refl refl
+      where
+        go : (c d : Bool) → eqb a x ≡ c → eqb b x ≡ d → There t x
+        go true d e f = subst (λ (y : ℕ). There t y) (eqb-true a x e) here
+        go false true e f = subst (λ (y : ℕ). There t y) (eqb-true b x f) there
+        go false false e f = stays t x (kept x (eqb-false a x e) (eqb-false b x f)) (off x (eqb-false a x e, (eqb-false b x f, tt)))
+
+    abbrev Stepped : Event K → Type 0
+    Stepped e = Shows C sort (step s (e .op) .0) w' × (e .answer ≡ step s (e .op) .1) × Handed (step s (e .op) .2) (e .lent) (e .filled)
+
+    happened : (e : Event K) → Happens C sort s w w' e → Elsewhere (e .on) w w' → Stepped e
+    happened e (calls i o n f u there before after c d) off =
+        let F = C .class (sort o) .code .function f in
+        let k = C .class (sort o) .part .call (F .call) in
+        let x = linked .links (sort o) f s g i o u (subst (λ (m : Memory). Holds C sort s o m) (sym before) (shows o n there)) c d in (
+          one-touched (called s i o k .0) o (λ m z. subst (λ (y : Memory). Holds C sort (called s i o k .0) o y) (sym after) (x .is)) (λ y z. call-kept s y i o k z) off,
+          ap reply (x .code),
+          x .handed,
+        )
+    happened e (pairs i a b m n t u sa sb apart ta tb before after c d) off =
+        let j = C .class (C .first t) .part .call (C .double t .first) in
+        let k = C .class (C .second t) .part .call (C .double t .second) in
+        let x =
+        linked .double t s g i a b apart u (w b) (w' b)
+        (subst (λ (y : C .Sort). Is (C .class y .code .layout) (C .class y .part .num) s a (u .before .header) (u .before .entries)) sa (subst (λ (l : Memory). Holds C sort s a l) (sym before) (shows a m ta)))
+        (subst (λ (y : C .Sort). Is (C .class y .code .layout) (C .class y .part .num) s b (w b .header) (w b .entries)) sb (shows b n tb)) c d in (
+          two-touched (step s (both i a j b k) .0) a b
+              (λ l z.
+              subst (λ (y : Memory). Holds C sort (step s (both i a j b k) .0) a y) (sym after)
+              (subst (λ (y : C .Sort). Is (C .class y .code .layout) (C .class y .part .num) (step s (both i a j b k) .0) a (u .after .header) (u .after .entries)) (sym sa) (x .first)))
+              (λ l z. subst (λ (y : C .Sort). Is (C .class y .code .layout) (C .class y .part .num) (step s (both i a j b k) .0) b (w' b .header) (w' b .entries)) (sym sb) (x .second))
+              (λ y p q. both-kept s y i a j b k apart p q) off,
+          x .code,
+          x .handed,
+        )
+    happened e (inits o n r v told words room d entries) off =
+        let P = C .class (sort o) .part in
+        let x =
+        makes P (linked .fits (sort o)) (C .class (sort o) .code .layout) s g o n (w o .header) (w o .entries) r (w' o .header) v words room (linked .told (sort o) n told) d in (
+          one-touched (created s o (P .num n) .0) o (here r x) (λ y z. create-kept s y o (P .num n) v z) off,
+          x .code,
+          subst (λ (l : List Woken). Handed l [] []) (sym (create-silent s o o (P .num n) v)) refl,
+        )
+      where
+        here : (r : ℤ) → Turns (C .class (sort o) .code .layout) (C .class (sort o) .part .num) s o (create o (C .class (sort o) .part .num n)) r (w' o .header) (w o .entries)
+            → There (created s o (C .class (sort o) .part .num n) .0) o
+        here (pos c) x m z =
+            subst
+            (λ (y : List ℕ). Is (C .class (sort o) .code .layout) (C .class (sort o) .part .num) (created s o (C .class (sort o) .part .num n) .0) o (w' o .header) y)
+            (sym entries) (x .is)
+        here (negsuc c) x m z = absurd (create-denied s o o (C .class (sort o) .part .num n) v (negsuc c) m (x .code) z)
+    happened e (removes i o n r k state there d header) off =
+        let L = C .class (sort o) .code .layout in
+        let num = C .class (sort o) .part .num in
+        let x = expires L num (linked .beside (sort o)) (linked .own (sort o)) s g i o (w o .header) (w o .entries) (shows o n there) state r k (w' o .entries) d in
+        let c : reply r ≡ done ok = subst (λ (y : State). reply r ≡ expired y s i .1) state (x .code) in
+        let m : Allowed r (Is L num (left s i o) o (set (w o .header) (L .len) k) (w' o .entries)) =
+        subst (λ (y : State). Allowed r (Is L num (expired y s i .0) o (set (w o .header) (L .len) k) (w' o .entries))) state (x .is) in (
+          subst (λ (y : State). Shows C sort (expired y s i .0) w') (sym state) (one-touched (left s i o) o (here r c m) (λ y z. left-kept s y i o z) off),
+          x .code,
+          subst (λ (y : State). Handed (expired y s i .2) [] []) (sym state) refl,
+        )
+      where
+        here : (r : ℤ) → reply r ≡ done ok
+            → Allowed r (Is (C .class (sort o) .code .layout) (C .class (sort o) .part .num) (left s i o) o (set (w o .header) (C .class (sort o) .code .layout .len) k) (w' o .entries))
+            → There (left s i o) o
+        here (pos c) e y m z =
+            subst (λ (l : List ℕ). Is (C .class (sort o) .code .layout) (C .class (sort o) .part .num) (left s i o) o l (w' o .entries)) (sym header) y
+        here (negsuc c) e y m z = absurd (let l : _≡_ {A = ℕ} 0 1 = cc in omega arith)
+    happened e (moves x z) off = (
+      λ y. stays (step s x .0) y (moves-kept s y x z .0) (off y tt),
+      refl,
+      subst (λ (l : List Woken). Handed l [] []) (sym (moves-kept s 0 x z .1)) refl,
+    )
+
+  -- any number of them
+  after-fine : (s : Sys K) → Fine s → (es : List (Event K)) → Fine (after s (ops es))
+  after-fine s g [] = g
+  after-fine s g (e ∷ es) = step-fine (linked .lawful) (after s (ops es)) (e .op) (after-fine s g es)
+
+  pub histories : Histories C sort
+  histories s g w shows [] w' begun = record { shows = shows; agree = tt; untouched = λ o a. refl }
+  histories s g w shows (e ∷ es) w' (then {w' = v} ran h off) =
+      let past = histories s g w shows es v ran in
+      let now = happened (after s (ops es)) (after-fine s g es) v w' (past .shows) e h off in
+      record { shows = now .0; agree = (now .1, now .2, past .agree); untouched = λ o a. off o (a .0) ∙ past .untouched o (a .1) }
