@@ -141,7 +141,8 @@ pub record WaitedWith (u : Use) (c c' : Memory) : Type 0 where
   pub lent : u .lent ≡ who ∷ []
   pub filled : u .filled ≡ who' ∷ []
   pub entries : u .after .entries ≡ u .before .entries
-  pub waited : Waited (u .id) (u .priority) (u .state) (c .header) (c .entries) (u .before .header) (u .before .entries) who (u .answer) (c' .header) (c' .entries) (u .after .header) who'
+  pub waited : Waited (u .id) (u .priority) (u .state) (c .header) (c .entries) (u .before .header) (u .before .entries) who (u .answer)
+      (c' .header) (c' .entries) (u .after .header) who'
 
 abbrev pub waitBlocking : Double mutex-kind condvar-kind
 waitBlocking = record { first = mutex.release; second = condvar.wait; Contract = WaitedWith }

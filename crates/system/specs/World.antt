@@ -51,6 +51,13 @@ pub record Event (K : Kind) : Type 0 where
   pub filled : List ℕ
   pub on : List ℕ
 
+-- a function's use, on the objects l; and what nobody lends a place for
+abbrev pub seen : {K : Kind} → Op K → Use → List ℕ → Event K
+seen x u l = record { op = x; answer = reply (u .answer); lent = u .lent; filled = u .filled; on = l }
+
+abbrev pub quiet : {K : Kind} → Op K → Answer → List ℕ → Event K
+quiet x a l = record { op = x; answer = a; lent = []; filled = []; on = l }
+
 abbrev pub ops : {K : Kind} → List (Event K) → List (Op K)
 ops es = map (λ e. e .op) es
 
@@ -86,26 +93,30 @@ module _ {K : Kind} (C : Library K) (sort : ℕ → C .Sort) where
     -- the function f was called, by the thread i, on the object o, which is there
     calls : (i o : ℕ) (n : K .Num) (f : class o .code .Fn) (u : Use) → s .slot o ≡ object n → u .before ≡ w o → w' o ≡ u .after
         → Caller (class o .code .function f) s i o u → class o .code .function f .Contract u
-        → Happens s w w' (record { op = invoke i o (class o .part .call (class o .code .function f .call)); answer = reply (u .answer); lent = u .lent; filled = u .filled; on = o ∷ [] })
+        → Happens s w w' (seen (invoke i o (class o .part .call (class o .code .function f .call))) u (o ∷ []))
     -- the function t on two objects, which are there and are two
     pairs : (i a b : ℕ) (m n : K .Num) (t : C .Two) (u : Use) → sort a ≡ C .first t → sort b ≡ C .second t → (a ≡ b → ⊥)
-        → s .slot a ≡ object m → s .slot b ≡ object n → u .before ≡ w a → w' a ≡ u .after → Truthful s i u → C .double t .Contract u (w b) (w' b)
-        → Happens s w w' (record { op = both i a (C .class (C .first t) .part .call (C .double t .first)) b (C .class (C .second t) .part .call (C .double t .second)); answer = reply (u .answer); lent = u .lent; filled = u .filled; on = a ∷ b ∷ [] })
+        → s .slot a ≡ object m → s .slot b ≡ object n → u .before ≡ w a → w' a ≡ u .after → Truthful s i u
+        → C .double t .Contract u (w b) (w' b)
+        → Happens s w w' (seen (both i a (C .class (C .first t) .part .call (C .double t .first)) b (C .class (C .second t) .part .call (C .double t .second))) u (a ∷ b ∷ []))
     -- init, in a slot that is vacant and in memory that is long enough
-    inits : (o : ℕ) (n : class o .kind .Num) (r : ℤ) → s .slot o ≡ vacant → class o .code .Told n → class o .code .layout .words ≤ length (w o .header) → maxWaiters ≤ length (w o .entries)
+    inits : (o : ℕ) (n : class o .kind .Num) (r : ℤ) → s .slot o ≡ vacant → class o .code .Told n
+        → class o .code .layout .words ≤ length (w o .header) → maxWaiters ≤ length (w o .entries)
         → Started (class o .kind) (class o .code .layout) n (w o .header) r (w' o .header) → w' o .entries ≡ w o .entries
-        → Happens s w w' (record { op = create o (class o .part .num n); answer = reply r; lent = []; filled = []; on = o ∷ [] })
+        → Happens s w w' (quiet (create o (class o .part .num n)) (reply r) (o ∷ []))
     -- remove, of a thread that waits on the object o: it is lent the word of the header that has the queue's length
     removes : (i o : ℕ) (n : K .Num) (r : ℤ) (k : ℕ) → s .state i ≡ waiting o → s .slot o ≡ object n
-        → queue.Does (remove i) (getD (w o .header) (class o .code .layout .len) 0) (w o .entries) r k (w' o .entries) → w' o .header ≡ set (w o .header) (class o .code .layout .len) k
-        → Happens s w w' (record { op = expire i; answer = reply r; lent = []; filled = []; on = o ∷ [] })
+        → queue.Does (remove i) (getD (w o .header) (class o .code .layout .len) 0) (w o .entries) r k (w' o .entries)
+        → w' o .header ≡ set (w o .header) (class o .code .layout .len) k
+        → Happens s w w' (quiet (expire i) (reply r) (o ∷ []))
     -- the kernel's own doing
-    moves : (x : Op K) → OfThreads x → Happens s w w' (record { op = x; answer = step s x .1; lent = []; filled = []; on = [] })
+    moves : (x : Op K) → OfThreads x → Happens s w w' (quiet x (step s x .1) [])
 
   -- these events, the newest in front, from the state s and the memory w; now the memory is w'
   pub data Ran (s : Sys K) (w : World) : List (Event K) → World → Type 0 where
     begun : Ran s w [] w
-    then : {es : List (Event K)} {e : Event K} {w' w'' : World} → Ran s w es w' → Happens (after s (ops es)) w' w'' e → Elsewhere (e .on) w' w'' → Ran s w (e ∷ es) w''
+    then : {es : List (Event K)} {e : Event K} {w' w'' : World} → Ran s w es w' → Happens (after s (ops es)) w' w'' e → Elsewhere (e .on) w' w''
+        → Ran s w (e ∷ es) w''
 
   -- each answer, and each word that was handed out, is that of the step
   abbrev pub Agree : Sys K → List (Event K) → Type 0
