@@ -19,13 +19,13 @@ use Rattle.system.specs.Part.{Part}
 use Rattle.system.specs.System.{absent, running, number, Sys, deed, states, unless, serve, outcome, verdict, called}
 use Rattle.system.specs.System as system
 use Rattle.system.specs.Rules.{times, Fine}
-use Rattle.system.specs.Functions.{Use, Did, given, Silent, InWord, InSlice}
+use Rattle.system.specs.Functions.{Use, Did, given, heard, Silent, InWord, InSlice}
 use Rattle.system.specs.Link.{Is, word, Truthful, Steps}
 use Rattle.system.proofs.Times.{times-pick, not-held}
 use Rattle.system.proofs.Sheets.{Fits}
 use Rattle.system.proofs.Parts.{wrapped, call-part}
-use Rattle.system.proofs.Woken.{Within, within-part, handed-out, handed-few, call-readies}
-use Rattle.system.proofs.Link.{tells, gives, leaves, in-none, in-word}
+use Rattle.system.proofs.Woken.{Within, within-part, handed-out, handed-few, handed-count, call-readies}
+use Rattle.system.proofs.Link.{tells, gives, leaves, in-none, in-word, read-all}
 
 -- nobody is to wait
 abbrev pub Unparked : {N W : Type 0} → Verdict N W → Type 0
@@ -56,8 +56,9 @@ runs-valid s g i run =
     lt-ltb (s .prio i) maxPriority
     (g .known i (λ a. let v : running ≡ absent = sym run ∙ a in absurd (let y : _≡_ {A = ℕ} 0 1 = cc in omega arith)) .1)
 
--- the memory is the object o of s, of which the function is the call k; m: how many words it is lent
-module _ {A K : Kind} (law : Lawful K) (P : Part A K) (fits : Fits P) (L : Layout (A .Num)) (k : A .Call) (m : ℕ → ℕ) (s : Sys K) (g : Fine s) (i o : ℕ) (u : Use)
+-- the memory is the object o of s, of which the function is the call k; m: how many words it is lent; c: how many it
+-- wrote, by its answer
+module _ {A K : Kind} (law : Lawful K) (P : Part A K) (fits : Fits P) (L : Layout (A .Num)) (k : A .Call) (m c : ℕ → ℕ) (s : Sys K) (g : Fine s) (i o : ℕ) (u : Use)
     (is : Is L (P .num) s o (u .before .header) (u .before .entries)) where
   abbrev n : A .Num
   n = L .num (u .before .header)
@@ -71,12 +72,12 @@ module _ {A K : Kind} (law : Lawful K) (P : Part A K) (fits : Fits P) (L : Layou
   abbrev Same : (A .Num → List ℕ → Out (A .Num)) → Type 0
   Same f = outcome s i o (P .call k) (P .num n) ≡ wrapped (P .num) (f n q)
 
-  module _ (few : Within m (A .decide n v (map ident q) i k)) where
-    whole : Within m (verdict s i o (P .call k) (P .num n))
-    whole = rw (fits .decides n (s .wish) (map ident q) i k) (within-part (P .num) (P .wish) m (A .decide n v (map ident q) i k) few)
+  module _ (few : Within m c q (A .decide n v (map ident q) i k)) where
+    whole : Within m c q (verdict s i o (P .call k) (P .num n))
+    whole = rw (fits .decides n (s .wish) (map ident q) i k) (within-part m c q (P .num) (P .wish) (A .decide n v (map ident q) i k) few)
 
     at-most : length (called s i o (P .call k) .2) ≤ m (length q)
-    at-most = handed-few s g i o (P .call k) (P .num n) (is .slot) m whole
+    at-most = handed-few s g i o (P .call k) (P .num n) (is .slot) m c whole
 
     module _ (f : A .Num → List ℕ → Out (A .Num)) (same : Same f) (d : Did L f u) where
       abbrev h : List ℕ
@@ -86,25 +87,29 @@ module _ {A K : Kind} (law : Lawful K) (P : Part A K) (fits : Fits P) (L : Layou
       e = u .before .entries
 
       words : given L f u ≡ map word (called s i o (P .call k) .2)
-      words = gives law L (P .num) s g i o (P .call k) f h e is same m whole
+      words = gives law L (P .num) s g i o (P .call k) f h e is same m c whole
 
-      stepped : (Listed (map word (called s i o (P .call k) .2)) (u .lent) (u .filled)) → Steps L (P .num) s i o (P .call k) u
+      stepped : (Listed (map word (called s i o (P .call k) .2)) (u .lent) (u .filled)) → Steps L (P .num) s i o (P .call k) c u
       stepped x =
+          let code : u .answer ≡ called s i o (P .call k) .1 = d .code ∙ sym (tells law L (P .num) s g i o (P .call k) f h e is same) in
           record {
-            code = d .code ∙ sym (tells law L (P .num) s g i o (P .call k) f h e is same);
+            code = code;
             is = leaves law L (P .num) s g i o (P .call k) f h e is same (u .answer) (u .after .header) (u .after .entries) d;
             handed = x;
+            words =
+                read-all (called s i o (P .call k) .2) (heard c (u .answer)) (u .lent) (u .filled) x
+                (handed-count s g i o (P .call k) (P .num n) (is .slot) m c whole ∙ ap (heard c) (sym code));
             readies = call-readies s g i o (P .call k) (P .num n) (is .slot);
           }
 
-      pub silent : m (length q) ≤ 0 → u .lent ≡ [] → u .filled ≡ [] → Steps L (P .num) s i o (P .call k) u
+      pub silent : m (length q) ≤ 0 → u .lent ≡ [] → u .filled ≡ [] → Steps L (P .num) s i o (P .call k) c u
       silent z a b = stepped (in-none (called s i o (P .call k) .2) (u .lent) (u .filled) a b (omega (arith, at-most, z)))
 
-      pub in-a-word : m (length q) ≤ 1 → (w w' : ℕ) → u .lent ≡ w ∷ [] → u .filled ≡ w' ∷ [] → Told (given L f u) w w' → Steps L (P .num) s i o (P .call k) u
+      pub in-a-word : m (length q) ≤ 1 → (w w' : ℕ) → u .lent ≡ w ∷ [] → u .filled ≡ w' ∷ [] → Told (given L f u) w w' → Steps L (P .num) s i o (P .call k) c u
       in-a-word z w w' a b t =
           stepped (in-word (called s i o (P .call k) .2) w w' (u .lent) (u .filled) a b (omega (arith, at-most, z)) (subst (λ (y : List ℕ). Told y w w') words t))
 
-      pub in-a-slice : Listed (given L f u) (u .lent) (u .filled) → Steps L (P .num) s i o (P .call k) u
+      pub in-a-slice : Listed (given L f u) (u .lent) (u .filled) → Steps L (P .num) s i o (P .call k) c u
       in-a-slice x = stepped (subst (λ (y : List ℕ). Listed y (u .lent) (u .filled)) words x)
 
     -- the function is told the thread's numbers
@@ -113,7 +118,7 @@ module _ {A K : Kind} (law : Lawful K) (P : Part A K) (fits : Fits P) (L : Layou
         call-part P fits (s .wish) (thread i (s .prio i) (number (s .state i))) k n q
         ∙ ap (λ (w : object.Caller). wrapped (P .num) (call A v w k n q)) (let x : thread i (s .prio i) (number (s .state i)) ≡ thread (u .id) (u .priority) (u .state) = cc in x)
 
-    pub by-thread : Truthful s i u → m (length q) ≤ 0 → Silent L (call A v (thread (u .id) (u .priority) (u .state)) k) u → Steps L (P .num) s i o (P .call k) u
+    pub by-thread : Truthful s i u → m (length q) ≤ 0 → Silent L (call A v (thread (u .id) (u .priority) (u .state)) k) u → Steps L (P .num) s i o (P .call k) c u
     by-thread t z x = silent _ (as-thread t) (x .does) z (x .lent) (x .filled)
 
     -- it is told a name at most, and a thread that runs calls it
@@ -124,22 +129,22 @@ module _ {A K : Kind} (law : Lawful K) (P : Part A K) (fits : Fits P) (L : Layou
           rw run
           (call-part P fits (s .wish) (thread i (s .prio i) 1) k n q ∙ ap (wrapped (P .num)) (call-named A v i (s .prio i) j k n q (runs-valid s g i run) same stays))
 
-      pub by-name : m (length q) ≤ 0 → Silent L (call A v (named j) k) u → Steps L (P .num) s i o (P .call k) u
+      pub by-name : m (length q) ≤ 0 → Silent L (call A v (named j) k) u → Steps L (P .num) s i o (P .call k) c u
       by-name z x = silent _ as-named (x .does) z (x .lent) (x .filled)
 
-      pub by-word : m (length q) ≤ 1 → InWord L (call A v (named j) k) u → Steps L (P .num) s i o (P .call k) u
+      pub by-word : m (length q) ≤ 1 → InWord L (call A v (named j) k) u → Steps L (P .num) s i o (P .call k) c u
       by-word z x = in-a-word _ as-named (x .does) z (x .who) (x .who') (x .lent) (x .filled) (x .told)
 
       -- there is room for all that are woken
       as-handed : m (length q) ≤ length (u .lent) → Same (handed (length (u .lent)) (call A v (named j) k))
       as-handed l =
           let e : outcome s i o (P .call k) (P .num n) .turn .woken ≡ call A v (named j) k n q .turn .woken = ap (λ (y : Out (K .Num)). y .turn .woken) as-named in
-          let w = handed-out s g i o (P .call k) (P .num n) (is .slot) m whole in
+          let w = handed-out s g i o (P .call k) (P .num n) (is .slot) m c whole in
           let c : length (call A v (named j) k n q .turn .woken) ≤ length (u .lent) =
           omega (arith, l, at-most, ap length (sym e ∙ w), length-map (called s i o (P .call k) .2) word) in
           as-named ∙ ap (wrapped (P .num)) (rw (le-leb (length (call A v (named j) k n q .turn .woken)) (length (u .lent)) c) refl)
 
-      pub by-slice : m (length q) ≤ length (u .lent) → InSlice L (λ room. handed room (call A v (named j) k)) u → Steps L (P .num) s i o (P .call k) u
+      pub by-slice : m (length q) ≤ length (u .lent) → InSlice L (λ room. handed room (call A v (named j) k)) u → Steps L (P .num) s i o (P .call k) c u
       by-slice l x = in-a-slice _ (as-handed l) (x .does) (x .listed)
 
 -- a thread that runs, and need not wait, still runs

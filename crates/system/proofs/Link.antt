@@ -6,7 +6,8 @@ use Prim.Native.Nat.{ℕ, suc, _≤_}
 use native.Mathlib.Omega.{arith}
 use lib.Dec.{leb}
 use lib.IntN.{ℤ, pos, negsuc}
-use lib.ListN.{length, getD}
+use lib.ListN.{length, getD, take, drop, length-map}
+use lib.Seq.{take-at}
 use borrow.Author.Tests.{eq-eqb, ne-eqb, le-leb, leb-true}
 use Rattle.seq.proofs.Order.{clash}
 use Rattle.seq.proofs.Back.{back-length}
@@ -48,10 +49,10 @@ module _ {K : Kind} (law : Lawful K) {N : Type 0} (L : Layout N) (num : N → K 
   tells = answered ∙ sym (ap (λ (y : Out N). y .turn .code) here)
 
   -- the words that it hands out
-  pub gives : (x : ℕ → ℕ) → Within x (verdict s i o k (num (L .num h))) → on L f h e .turn .woken ≡ map word (called s i o k .2)
-  gives x w =
+  pub gives : (x c : ℕ → ℕ) → Within x c (s .queue o) (verdict s i o k (num (L .num h))) → on L f h e .turn .woken ≡ map word (called s i o k .2)
+  gives x c w =
       ap (λ (y : Out N). y .turn .woken) here ∙ sym (ap (λ (y : Out (K .Num)). y .turn .woken) same)
-      ∙ handed-out s g i o k (num (L .num h)) (m .slot) x w
+      ∙ handed-out s g i o k (num (L .num h)) (m .slot) x c w
 
   done : (c : ℕ) → u .turn .code ≡ pos c → called s i o k .0 ≡ serve s i o (verdict s i o k (num (L .num h))) (wrapped num u)
   done c z = rw (m .slot, same, z)
@@ -89,6 +90,12 @@ pub in-word : (l : List Woken) (w w' : ℕ) (out out' : List ℕ) → out ≡ w 
 in-word [] w w' out out' a b z t = rw (a, b, t) refl
 in-word (x ∷ []) w w' out out' a b z t = rw (a, b, t) refl
 in-word (x ∷ y ∷ l) w w' out out' a b z t = absurd (omega (arith, z))
+
+-- the words that are read, as many as l
+pub read-all : (l : List Woken) (n : ℕ) (out out' : List ℕ) → Handed l out out' → length l ≡ n → take n out' ≡ map word l
+read-all l n out out' h e =
+    let z : length (map word l) ≡ n = length-map l word ∙ e in
+    rw h (take-at (map word l) (drop (length (map word l)) out) n z)
 
 -- another object, and the priorities, stay
 module _ {K : Kind} (s : Sys K) (i o : ℕ) (k : K .Call) where

@@ -1,9 +1,10 @@
 -- wait_blocking: by its contract, what it does to the memory of its two objects is the step of the system. Assumes nothing.
 use mathlib.Core.Path.{_≡_, refl, sym, ap, subst, _∙_}
-use mathlib.Core.List.{List, [], _∷_}
+use mathlib.Core.List.{List, [], _∷_, _++_}
 use Prim.Native.Nat.{ℕ}
 use native.Mathlib.Omega.{arith}
 use lib.IntN.{ℤ, pos, negsuc}
+use lib.ListN.{take}
 use borrow.Author.Tests.{ne-eqb}
 use Rattle.wait_queue.specs.Turn.{waits}
 use Rattle.wait_queue.specs.Post.{Refused, Told}
@@ -20,10 +21,11 @@ use Rattle.condvar.specs.Post.{agreed, Allowed, Waited}
 use Rattle.system.specs.Part.{Part}
 use Rattle.system.specs.System.{ready, number, Sys, reply, called, answers}
 use Rattle.system.specs.Rules.{Fine}
-use Rattle.system.specs.Functions.{Memory, Use, WaitedWith, waitBlocking}
-use Rattle.system.specs.Link.{Is, Truthful, Pairs, LinksBoth}
+use Rattle.system.specs.Functions.{Memory, Use, heard, onlyAt, WaitedWith, waitBlocking}
+use Rattle.system.specs.Link.{Is, Handed, Truthful, Pairs, LinksBoth}
 use Rattle.system.proofs.Sheets.{Fits}
-use Rattle.system.proofs.Waiting.{both-tell, first-is, second-is, hands, ready-both}
+use Rattle.system.proofs.Link.{read-all}
+use Rattle.system.proofs.Waiting.{both-tell, first-is, second-is, hands, count, ready-both}
 
 module _ {K : Kind} (law : Lawful K) (P : Part mutex-kind K) (fits : Fits P) (C : Part condvar-kind K) (fitting : Fits C)
     (s : Sys K) (g : Fine s) (i a b : ℕ) (off : a ≡ b → ⊥) (u : Use) (c c' : Memory) (x : Is lock.layout (P .num) s a (u .before .header) (u .before .entries))
@@ -35,7 +37,7 @@ module _ {K : Kind} (law : Lawful K) (P : Part mutex-kind K) (fits : Fits P) (C 
   k = C .call condvar.wait
 
   abbrev Goal : Type 0
-  Goal = Pairs lock.layout (P .num) condition.layout (C .num) s i a j b k u c'
+  Goal = Pairs lock.layout (P .num) condition.layout (C .num) s i a j b k (onlyAt 2) u c'
 
   abbrev h : List ℕ
   h = u .before .header
@@ -65,6 +67,7 @@ module _ {K : Kind} (law : Lawful K) (P : Part mutex-kind K) (fits : Fits P) (C 
         first = rw (ne-eqb a b off, l) (moved x (kept n z .2) (d .entries));
         second = rw (ne-eqb a b off, l) (moved y (kept n z .0) (kept n z .1));
         handed = rw (ne-eqb a b off, l) (d .filled ∙ ap (λ (v : ℕ). v ∷ []) (kept n z .3) ∙ sym (d .lent));
+        words = rw (ne-eqb a b off, l) (ap (λ (r : ℤ). take (heard (onlyAt 2) r) (u .filled)) z);
         readies = rw (ne-eqb a b off, l) (record { ready = tt; others = λ v w o. refl });
       }
     where
@@ -93,22 +96,27 @@ module _ {K : Kind} (law : Lawful K) (P : Part mutex-kind K) (fits : Fits P) (C 
           rw f at (sym (waited .code) ∙ z) in
           absurd (let o : _≡_ {A = ℕ} 0 1 = cc in omega arith)
       by (pos v) f =
+          let m = u .after .header in
+          let q = c .header in
+          let l = c .entries in
+          let q' = c' .header in
+          let l' = c' .entries in
+          let hand : Handed (called s i a j .2 ++ called (called s i a j .0) i b k .2) (u .lent) (u .filled) =
+          hands law P fits C fitting s g i a b off h e q l x y n told v f (u .answer) q' l' m (does .1) (does .0) (d .who) (d .who') (u .lent) (u .filled)
+          (d .lent) (d .filled) (does .2) in
           record {
             code = rw (ne-eqb a b off) (ap reply said);
             first =
                 rw (ne-eqb a b off, told)
-                (subst (λ (l : List ℕ). Is lock.layout (P .num) (called (called s i a j .0) i b k .0) a (u .after .header) l) (sym (d .entries))
-                (first-is law P fits C fitting s g i a b off h e (c .header) (c .entries) x y n told v f (u .answer) (c' .header) (c' .entries) (u .after .header) (does .1) (does .0)));
-            second =
+                (subst (λ (z : List ℕ). Is lock.layout (P .num) (called (called s i a j .0) i b k .0) a (u .after .header) z) (sym (d .entries))
+                (first-is law P fits C fitting s g i a b off h e q l x y n told v f (u .answer) q' l' m (does .1) (does .0)));
+            second = rw (ne-eqb a b off, told) (second-is law P fits C fitting s g i a b off h e q l x y n told v f (u .answer) q' l' m (does .1) (does .0));
+            handed = rw (ne-eqb a b off, told) hand;
+            words =
                 rw (ne-eqb a b off, told)
-                (second-is law P fits C fitting s g i a b off h e (c .header) (c .entries) x y n told v f (u .answer) (c' .header) (c' .entries) (u .after .header) (does .1) (does .0));
-            handed =
-                rw (ne-eqb a b off, told)
-                (hands law P fits C fitting s g i a b off h e (c .header) (c .entries) x y n told v f (u .answer) (c' .header) (c' .entries) (u .after .header) (does .1) (does .0) (d .who) (d .who')
-                (u .lent) (u .filled) (d .lent) (d .filled) (does .2));
-            readies =
-                rw (ne-eqb a b off, told)
-                (ready-both law P fits C fitting s g i a b off h e (c .header) (c .entries) x y n told v f (u .answer) (c' .header) (c' .entries) (u .after .header) (does .1) (does .0));
+                (read-all (called s i a j .2 ++ called (called s i a j .0) i b k .2) (heard (onlyAt 2) (u .answer)) (u .lent) (u .filled) hand
+                (count law P fits C fitting s g i a b off h e q l x y n told v f (u .answer) q' l' m (does .1) (does .0) ∙ ap (heard (onlyAt 2)) (sym (does .1 .code))));
+            readies = rw (ne-eqb a b off, told) (ready-both law P fits C fitting s g i a b off h e q l x y n told v f (u .answer) q' l' m (does .1) (does .0));
           }
 
 pub wait-links : {K : Kind} → Lawful K → (P : Part mutex-kind K) → Fits P → (C : Part condvar-kind K) → Fits C → LinksBoth P lock.layout C condition.layout waitBlocking

@@ -1,6 +1,6 @@
 -- A mutex is given back and a condition variable waited at, both or neither, in any system that has both. Assumes nothing.
 use mathlib.Core.Path.{_≡_, refl, sym, ap, subst, _∙_}
-use mathlib.Core.List.{List, [], _∷_, _++_, map}
+use mathlib.Core.List.{List, [], _∷_, _++_, map, append-nil}
 use Prim.Native.Nat.{ℕ, _≤_}
 use native.Mathlib.Omega.{arith}
 use lib.IntN.{ℤ, pos, negsuc}
@@ -26,12 +26,12 @@ use Rattle.system.specs.Part.{Part}
 use Rattle.system.specs.Sum.{mapped}
 use Rattle.system.specs.System.{State, running, ready, number, Sys, Woken, outcome, verdict, called, answers}
 use Rattle.system.specs.Rules.{Fine}
-use Rattle.system.specs.Functions.{nobody, single}
+use Rattle.system.specs.Functions.{heard, nobody, single, onlyAt}
 use Rattle.system.specs.Link.{Is, word, Handed, Readies}
 use Rattle.system.proofs.Calls.{runs, barred, called-fine}
 use Rattle.system.proofs.Sheets.{Fits}
 use Rattle.system.proofs.Parts.{wrapped, call-part}
-use Rattle.system.proofs.Woken.{Within, within-part, handed-few, call-readies}
+use Rattle.system.proofs.Woken.{Within, within-part, handed-few, handed-count, call-readies}
 use Rattle.system.proofs.Link.{tells, gives, leaves, in-word, prio-kept, slot-kept, queue-kept, is-kept}
 use Rattle.system.proofs.Callers.{Unparked, still}
 use Rattle.system.proofs.Functions.{unlocks-unparked, unlocks-within}
@@ -66,11 +66,12 @@ told-on l (y ∷ m) w w' z t = absurd (omega (arith, z))
 told-on [] [] w w' z t = t
 told-on (x ∷ l) [] w w' z t = t
 
+length-same : (l m : List Woken) → length m ≤ 0 → length (l ++ m) ≡ length l
+length-same l (y ∷ m) z = absurd (omega (arith, z))
+length-same l [] z = ap length (append-nil l)
+
 length-on : (l m : List Woken) → length m ≤ 0 → length l ≤ 1 → length (l ++ m) ≤ 1
-length-on l (y ∷ m) z t = absurd (omega (arith, z))
-length-on [] [] z t = omega arith
-length-on (x ∷ []) [] z t = omega arith
-length-on (x ∷ y ∷ l) [] z t = absurd (omega (arith, t))
+length-on l m z t = omega (arith, length-same l m z)
 
 module _ {K : Kind} (law : Lawful K) (P : Part mutex-kind K) (fits : Fits P) (C : Part condvar-kind K) (fitting : Fits C)
     (s : Sys K) (g : Fine s) (i a b : ℕ) (off : a ≡ b → ⊥) (m d h e : List ℕ) (x : Is lock.layout (P .num) s a m d) (y : Is condition.layout (C .num) s b h e) where
@@ -108,10 +109,11 @@ module _ {K : Kind} (law : Lawful K) (P : Part mutex-kind K) (fits : Fits P) (C 
   first-tells : called s i a release .1 ≡ given .turn .code
   first-tells = tells law lock.layout (P .num) s g i a release (releaseOut i p st) m d x first-same
 
-  first-within : Within single (verdict s i a release (P .num n))
+  first-within : Within single (onlyAt 2) (s .queue a) (verdict s i a release (P .num n))
   first-within =
       rw (fits .decides n (s .wish) (map ident (s .queue a)) i mutex.release)
-      (within-part (P .num) (P .wish) single (unlocks n i (map ident (s .queue a)) (deny edeadlk)) (unlocks-within n i (map ident (s .queue a)) (deny edeadlk) tt))
+      (within-part single (onlyAt 2) (s .queue a) (P .num) (P .wish) (unlocks n i (map ident (s .queue a)) (deny edeadlk))
+      (unlocks-within n i (s .queue a) (deny edeadlk) refl))
 
   first-stays : Unparked (verdict s i a release (P .num n))
   first-stays =
@@ -124,11 +126,11 @@ module _ {K : Kind} (law : Lawful K) (P : Part mutex-kind K) (fits : Fits P) (C 
   y-mid : Is condition.layout (C .num) mid b h e
   y-mid = is-kept condition.layout (C .num) s mid b h e (slot-kept s i a release b off) (queue-kept s i a release b off) y
 
-  second-within : Within nobody (verdict mid i b await (C .num tt))
-  second-within = rw (fitting .decides tt (mid .wish) (map ident (mid .queue b)) i condvar.wait) tt
+  second-within : Within nobody nobody (mid .queue b) (verdict mid i b await (C .num tt))
+  second-within = rw (fitting .decides tt (mid .wish) (map ident (mid .queue b)) i condvar.wait) refl
 
   second-none : length (called mid i b await .2) ≤ 0
-  second-none = handed-few mid fine-mid i b await (C .num tt) (y-mid .slot) nobody second-within
+  second-none = handed-few mid fine-mid i b await (C .num tt) (y-mid .slot) nobody nobody second-within
 
   module _ (c : ℕ) (z : given .turn .code ≡ pos c) where
     -- who is not refused runs
@@ -176,11 +178,17 @@ module _ {K : Kind} (law : Lawful K) (P : Part mutex-kind K) (fits : Fits P) (C 
     pub hands : (w w' : ℕ) (out out' : List ℕ) → out ≡ w ∷ [] → out' ≡ w' ∷ [] → Told (given .turn .woken) w w' → Handed (called s i a release .2 ++ called mid i b await .2) out out'
     hands w w' out out' v v' t =
         in-word (called s i a release .2 ++ called mid i b await .2) w w' out out' v v'
-        (length-on (called s i a release .2) (called mid i b await .2) second-none (handed-few s g i a release (P .num n) (x .slot) single first-within))
+        (length-on (called s i a release .2) (called mid i b await .2) second-none (handed-few s g i a release (P .num n) (x .slot) single (onlyAt 2) first-within))
         (told-on (called s i a release .2) (called mid i b await .2) w w' second-none
-        (subst (λ (l : List ℕ). Told l w w') (gives law lock.layout (P .num) s g i a release (releaseOut i p st) m d x first-same single first-within) t))
+        (subst (λ (l : List ℕ). Told l w w') (gives law lock.layout (P .num) s g i a release (releaseOut i p st) m d x first-same single (onlyAt 2) first-within) t))
 
     pub ready-both : Readies s i (called s i a release .2 ++ called mid i b await .2) end
     ready-both =
         readies-on s mid end i (called s i a release .2) (called mid i b await .2) (state-mid k z ∙ run k z) second-none (call-readies s g i a release (P .num n) (x .slot))
         (call-readies mid fine-mid i b await (C .num tt) (y-mid .slot))
+
+    -- as many words as the first's answer says
+    pub count : length (called s i a release .2 ++ called mid i b await .2) ≡ heard (onlyAt 2) (given .turn .code)
+    count =
+        length-same (called s i a release .2) (called mid i b await .2) second-none
+        ∙ handed-count s g i a release (P .num n) (x .slot) single (onlyAt 2) first-within ∙ ap (heard (onlyAt 2)) first-tells

@@ -21,27 +21,29 @@ use Rattle.kind.specs.Object.{Out, refused, thread, carried}
 use Rattle.system.specs.Sum.{mapped}
 use Rattle.system.specs.System.{ready, number, Slot, object, Sys, Woken, deed, woken, unless, serve, outcome, verdict, visited, called}
 use Rattle.system.specs.Rules.{Fine}
+use Rattle.system.specs.Functions.{heard}
 use Rattle.system.specs.Link.{word, Readies}
 use Rattle.system.proofs.Calls.{barred, granted}
 
--- a verdict wakes by an answer that is no refusal, and m n at most where n wait
-abbrev pub Within : {N W : Type 0} → (ℕ → ℕ) → Verdict N W → Type 0
-Within m (deny r) = Unit {0}
-Within m (allow n keep r) = Unit {0}
-Within m (allow n (park x) r) = Unit {0}
-Within m (allow n (wake p f) (pos c)) = (q : List ℕ) → length (gone ident p q) ≤ m (length q)
-Within m (allow n (wake p f) (negsuc c)) = ⊥
+-- a verdict on an object at which q wait: it wakes m n at most where n wait, by an answer that is no refusal, and as many as c says of the answer
+abbrev pub Within : {N W : Type 0} → (ℕ → ℕ) → (ℕ → ℕ) → List ℕ → Verdict N W → Type 0
+Within m c q (deny r) = heard c r ≡ 0
+Within m c q (allow n keep r) = heard c r ≡ 0
+Within m c q (allow n (park x) r) = c 1 ≡ 0
+Within m c q (allow n (wake p f) (pos r)) = (length (gone ident p q) ≤ m (length q)) × (length (gone ident p q) ≡ c r)
+Within m c q (allow n (wake p f) (negsuc r)) = ⊥
 
-pub within : {N W : Type 0} (m : ℕ → ℕ) (b : Bool) (d e : Verdict N W) → Within m d → Within m e → Within m (cond b d e)
-within m true d e x y = x
-within m false d e x y = y
+module _ (m c : ℕ → ℕ) (q : List ℕ) where
+  pub within : {N W : Type 0} (b : Bool) (d e : Verdict N W) → Within m c q d → Within m c q e → Within m c q (cond b d e)
+  within true d e x y = x
+  within false d e x y = y
 
-pub within-part : {M N X Y : Type 0} (f : M → N) (g : X → Y) (m : ℕ → ℕ) (d : Verdict M X) → Within m d → Within m (mapped f g d)
-within-part f g m (deny r) x = x
-within-part f g m (allow n keep r) x = x
-within-part f g m (allow n (park y) r) x = x
-within-part f g m (allow n (wake p h) (pos c)) x = x
-within-part f g m (allow n (wake p h) (negsuc c)) x = absurd x
+  pub within-part : {M N X Y : Type 0} (f : M → N) (g : X → Y) (d : Verdict M X) → Within m c q d → Within m c q (mapped f g d)
+  within-part f g (deny r) x = x
+  within-part f g (allow n keep r) x = x
+  within-part f g (allow n (park y) r) x = x
+  within-part f g (allow n (wake p h) (pos r)) x = x
+  within-part f g (allow n (wake p h) (negsuc r)) x = absurd x
 
 -- who waits wakes nobody
 pub parked-none : (w : ℕ) (q : List ℕ) → parked w q .woken ≡ []
@@ -50,6 +52,14 @@ parked-none w q = go (holds (ident w) q) (ltb (length q) maxWaiters)
     go : (a b : Bool) → cond a (refuse ebusy q) (cond b (record { code = waits; queue = joined w q; woken = [] }) (refuse enomem q)) .woken ≡ []
     go true b = refl
     go false true = refl
+    go false false = refl
+
+parked-heard : (c : ℕ → ℕ) (w : ℕ) (q : List ℕ) → c 1 ≡ 0 → heard c (parked w q .code) ≡ 0
+parked-heard c w q x = go (holds (ident w) q) (ltb (length q) maxWaiters)
+  where
+    go : (a b : Bool) → heard c (cond a (refuse ebusy q) (cond b (record { code = waits; queue = joined w q; woken = [] }) (refuse enomem q)) .code) ≡ 0
+    go true b = refl
+    go false true = x
     go false false = refl
 
 words : (f : ℕ → ℤ) (l : List ℕ) → map (λ x. queue.woken (f (ident x)) x) l ≡ map word (map (λ x. record { thread = ident x; result = f (ident x) }) l)
@@ -69,39 +79,62 @@ module _ {K : Kind} (s : Sys K) (g : Fine s) (i o : ℕ) (k : K .Call) (n : K .N
   abbrev l : List Woken
   l = called s i o k .2
 
-  told : (m : ℕ → ℕ) (d : Verdict (K .Num) (K .Wish)) → Within m d
-      → carried (thread i (s .prio i) 1) d n q .turn .woken ≡ map word (unless (carried (thread i (s .prio i) 1) d n q .turn .code) [] (woken (deed d) q))
-  told m (deny r) x = rw (unless-none r) refl
-  told m (allow a keep r) x = rw (unless-none r) refl
-  told m (allow a (park y) r) x =
-      parked-none (entry (s .prio i) i) q ∙ rw (unless-none (parked (entry (s .prio i) i) q .code)) refl
-  told m (allow a (wake p f) (pos c)) x = words f (gone ident p q)
-  told m (allow a (wake p f) (negsuc c)) x = absurd x
+  -- as it is carried out
+  abbrev out : Verdict (K .Num) (K .Wish) → Out (K .Num)
+  out d = carried (thread i (s .prio i) 1) d n q
 
-  few : (m : ℕ → ℕ) (d : Verdict (K .Num) (K .Wish)) (z : ℤ) → Within m d → length (unless z [] (woken (deed d) q)) ≤ m (length q)
-  few m d (negsuc c) x = omega arith
-  few m (deny r) (pos c) x = omega arith
-  few m (allow a keep r) (pos c) x = omega arith
-  few m (allow a (park y) r) (pos c) x = omega arith
-  few m (allow a (wake p f) (pos r)) (pos c) x =
-      let e : length (woken {W = K .Wish} (wake p f) q) ≡ length (gone ident p q) = length-map (gone ident p q) _ in
-      omega (arith, e, x q)
-  few m (allow a (wake p f) (negsuc r)) (pos c) x = absurd x
+  abbrev awake : ℤ → Verdict (K .Num) (K .Wish) → List Woken
+  awake z d = unless z [] (woken (deed d) q)
 
-  -- a verdict that wakes says so
-  module _ (m : ℕ → ℕ) (x : Within m (verdict s i o k n)) where
-    -- the words of the outcome are those of the step, and not too many
-    pub handed-out : outcome s i o k n .turn .woken ≡ map word l
-    handed-out =
-        subst (λ (y : Slot (K .Num)). outcome s i o k n .turn .woken ≡ map word (visited y s i o k .2)) (sym h) (go (callerCode (s .prio i) (number (s .state i))) refl)
-      where
-        go : (z : ℤ) → callerCode (s .prio i) (number (s .state i)) ≡ z
-            → outcome s i o k n .turn .woken ≡ map word (unless (outcome s i o k n .turn .code) [] (woken (deed (verdict s i o k n)) q))
-        go (negsuc c) z = rw (barred s i o k n (g .formed o n h) c z) refl
-        go (pos c) z = rw (granted s i o k n (g .formed o n h) c z) (told m (verdict s i o k n) x)
+  module _ (m c : ℕ → ℕ) where
+    told : (d : Verdict (K .Num) (K .Wish)) → Within m c q d → out d .turn .woken ≡ map word (awake (out d .turn .code) d)
+    told (deny r) x = rw (unless-none r) refl
+    told (allow a keep r) x = rw (unless-none r) refl
+    told (allow a (park y) r) x = parked-none (entry (s .prio i) i) q ∙ rw (unless-none (parked (entry (s .prio i) i) q .code)) refl
+    told (allow a (wake p f) (pos r)) x = words f (gone ident p q)
+    told (allow a (wake p f) (negsuc r)) x = absurd x
 
-    pub handed-few : length l ≤ m (length q)
-    handed-few = subst (λ (y : Slot (K .Num)). length (visited y s i o k .2) ≤ m (length q)) (sym h) (few m (verdict s i o k n) (outcome s i o k n .turn .code) x)
+    few : (d : Verdict (K .Num) (K .Wish)) (z : ℤ) → Within m c q d → length (awake z d) ≤ m (length q)
+    few d (negsuc r) x = omega arith
+    few (deny r) (pos z) x = omega arith
+    few (allow a keep r) (pos z) x = omega arith
+    few (allow a (park y) r) (pos z) x = omega arith
+    few (allow a (wake p f) (pos r)) (pos z) x =
+        let e : length (woken {W = K .Wish} (wake p f) q) ≡ length (gone ident p q) = length-map (gone ident p q) _ in
+        omega (arith, e, x .0)
+    few (allow a (wake p f) (negsuc r)) (pos z) x = absurd x
+
+    counted : (d : Verdict (K .Num) (K .Wish)) → Within m c q d → length (awake (out d .turn .code) d) ≡ heard c (out d .turn .code)
+    counted (deny r) x = rw (unless-none r) (sym x)
+    counted (allow a keep r) x = rw (unless-none r) (sym x)
+    counted (allow a (park y) r) x = rw (unless-none (parked (entry (s .prio i) i) q .code)) (sym (parked-heard c (entry (s .prio i) i) q x))
+    counted (allow a (wake p f) (pos r)) x = length-map (gone ident p q) _ ∙ x .1
+    counted (allow a (wake p f) (negsuc r)) x = absurd x
+
+    -- the words of the outcome are those of the step, not too many, and as many as the answer says
+    module _ (x : Within m c q (verdict s i o k n)) where
+      pub handed-out : outcome s i o k n .turn .woken ≡ map word l
+      handed-out =
+          subst (λ (y : Slot (K .Num)). outcome s i o k n .turn .woken ≡ map word (visited y s i o k .2)) (sym h)
+          (go (callerCode (s .prio i) (number (s .state i))) refl)
+        where
+          go : (z : ℤ) → callerCode (s .prio i) (number (s .state i)) ≡ z → outcome s i o k n .turn .woken ≡ map word (awake (outcome s i o k n .turn .code) (verdict s i o k n))
+          go (negsuc r) z = rw (barred s i o k n (g .formed o n h) r z) refl
+          go (pos r) z = rw (granted s i o k n (g .formed o n h) r z) (told (verdict s i o k n) x)
+
+      pub handed-few : length l ≤ m (length q)
+      handed-few =
+          subst (λ (y : Slot (K .Num)). length (visited y s i o k .2) ≤ m (length q)) (sym h) (few (verdict s i o k n) (outcome s i o k n .turn .code) x)
+
+      pub handed-count : length l ≡ heard c (called s i o k .1)
+      handed-count =
+          subst (λ (y : Slot (K .Num)). length (visited y s i o k .2) ≡ heard c (visited y s i o k .1)) (sym h)
+          (go (callerCode (s .prio i) (number (s .state i))) refl)
+        where
+          go : (z : ℤ) → callerCode (s .prio i) (number (s .state i)) ≡ z
+              → length (awake (outcome s i o k n .turn .code) (verdict s i o k n)) ≡ heard c (outcome s i o k n .turn .code)
+          go (negsuc r) z = rw (barred s i o k n (g .formed o n h) r z) refl
+          go (pos r) z = rw (granted s i o k n (g .formed o n h) r z) (counted (verdict s i o k n) x)
 
   off : (t : ℕ) (f : ℕ → ℤ) (y : List ℕ) → All (λ (w : Woken). w .thread ≡ t → ⊥) (map (λ x. record { thread = ident x; result = f (ident x) }) y) → holds t y ≡ false
   off t f [] a = refl
@@ -112,12 +145,12 @@ module _ {K : Kind} (s : Sys K) (g : Fine s) (i o : ℕ) (k : K .Call) (n : K .N
   call-readies =
       subst (λ (y : Slot (K .Num)). Readies s i (visited y s i o k .2) (visited y s i o k .0)) (sym h) (go (outcome s i o k n .turn .code) (verdict s i o k n))
     where
-      awake : (m : K .Num) (p : Pick) (f : ℕ → ℤ) (r : ℤ) (y : List ℕ) → ((t : ℕ) → holds t y ≡ true → holds t (gone ident p q) ≡ true)
+      roused : (m : K .Num) (p : Pick) (f : ℕ → ℤ) (r : ℤ) (y : List ℕ) → ((t : ℕ) → holds t y ≡ true → holds t (gone ident p q) ≡ true)
           → All (λ (w : Woken). serve s i o (allow m (wake p f) r) (outcome s i o k n) .state (w .thread) ≡ ready (w .result)) (map (λ x. record { thread = ident x; result = f (ident x) }) y)
-      awake m p f r [] a = tt
-      awake m p f r (x ∷ y) a =
+      roused m p f r [] a = tt
+      roused m p f r (x ∷ y) a =
           let e : holds (ident x) (gone ident p q) ≡ true = a (ident x) (rw (eq-eqb (ident x) (ident x) refl) refl) in
-          (rw e, awake m p f r y (λ t z. a t (by (eqb (ident x) t) t z)))
+          (rw e, roused m p f r y (λ t z. a t (by (eqb (ident x) t) t z)))
         where
           by : (b : Bool) (t : ℕ) → holds t y ≡ true → cond b true (holds t y) ≡ true
           by true t z = refl
@@ -129,4 +162,4 @@ module _ {K : Kind} (s : Sys K) (g : Fine s) (i o : ℕ) (k : K .Call) (n : K .N
       go (pos c) (allow m keep r) = record { ready = tt; others = λ t a x. refl }
       go (pos c) (allow m (park y) r) = record { ready = tt; others = λ t a x. rw (ne-eqb i t x) }
       go (pos c) (allow m (wake p f) r) =
-          record { ready = awake m p f r (gone ident p q) (λ t z. z); others = λ t a x. rw (off t f (gone ident p q) a) }
+          record { ready = roused m p f r (gone ident p q) (λ t z. z); others = λ t a x. rw (off t f (gone ident p q) a) }

@@ -1,7 +1,7 @@
 -- A history of calls of the code on objects in memory is a history of the system. Assumes nothing.
 use mathlib.Core.Path.{_≡_, refl, sym, subst, ap, _∙_}
 use mathlib.Core.Bool.{Bool, true, false}
-use mathlib.Core.List.{List, [], _∷_}
+use mathlib.Core.List.{List, [], _∷_, map}
 use Prim.Native.Nat.{ℕ, _<_}
 use native.Mathlib.Omega.{arith}
 use lib.Dec.{eqb}
@@ -12,11 +12,11 @@ use Rattle.seq.specs.List.{All}
 use Rattle.thread.specs.Code.{ok}
 use Rattle.kind.specs.Kind.{Kind, Lawful}
 use Rattle.condvar.specs.Post.{Allowed}
-use Rattle.system.specs.System.{State, waiting, object, Sys, Woken, expired, both, expire, create, left, created, done, denied, reply, step, after, called}
+use Rattle.system.specs.System.{State, waiting, object, Sys, Woken, Reply, expired, both, expire, create, left, created, done, denied, reply, step, after, called}
 use Rattle.system.specs.Rules.{Fine}
 use Rattle.system.specs.Functions.{Memory, Use}
-use Rattle.system.specs.Link.{Is, Handed, Links, LinksBoth, Steps, Pairs, Turns}
-use Rattle.system.specs.World.{Library, World, Event, ops, Elsewhere, Holds, Shows, Happens, calls, pairs, inits, removes, moves, Ran, begun, then, Agree, Follows, Histories}
+use Rattle.system.specs.Link.{Is, word, Handed, Links, LinksBoth, Steps, Pairs, Turns}
+use Rattle.system.specs.World.{Library, World, Event, quiet, ops, Agrees, Elsewhere, Holds, Shows, Happens, calls, pairs, inits, removes, moves, Ran, begun, then, Agree, Follows, Histories}
 use Rattle.system.proofs.Steps.{step-fine}
 use Rattle.system.proofs.Sheets.{Fits}
 use Rattle.system.proofs.Link.{is-kept}
@@ -63,7 +63,16 @@ module _ {K : Kind} (C : Library K) (linked : Linked C) (sort : ℕ → C .Sort)
         go false false e f = stays t x (kept x (eqb-false a x e) (eqb-false b x f)) (off x (eqb-false a x e, (eqb-false b x f, tt)))
 
     abbrev Stepped : Event K → Type 0
-    Stepped e = Shows C sort (step s (e .op) .0) w' × (e .answer ≡ step s (e .op) .1) × Handed (step s (e .op) .2) (e .lent) (e .filled)
+    Stepped e = Shows C sort (step s (e .op) .0) w' × Agrees e (step s (e .op))
+
+    -- nobody is woken, and no place was lent
+    silent : (e : Event K) (y : Reply K) → e .answer ≡ y .1 → y .2 ≡ [] → e .filled ≡ e .lent → e .told ≡ [] → Agrees e y
+    silent e y a z f t =
+        record {
+          answer = a;
+          handed = subst (λ (l : List Woken). Handed l (e .lent) (e .filled)) (sym z) f;
+          words = t ∙ sym (ap (map word) z);
+        }
 
     happened : (e : Event K) → Happens C sort s w w' e → Elsewhere (e .on) w w' → Stepped e
     happened e (calls i o n f u there before after c d) off =
@@ -71,8 +80,7 @@ module _ {K : Kind} (C : Library K) (linked : Linked C) (sort : ℕ → C .Sort)
         let k = C .class (sort o) .part .call (F .call) in
         let x = linked .links (sort o) f s g i o u (subst (λ (m : Memory). Holds C sort s o m) (sym before) (shows o n there)) c d in (
           one-touched (called s i o k .0) o (λ m z. subst (λ (y : Memory). Holds C sort (called s i o k .0) o y) (sym after) (x .is)) (λ y z. call-kept s y i o k z) off,
-          ap reply (x .code),
-          x .handed,
+          record { answer = ap reply (x .code); handed = x .handed; words = x .words },
         )
     happened e (pairs i a b m n t u sa sb apart ta tb before after c d) off =
         let j = C .class (C .first t) .part .call (C .double t .first) in
@@ -87,16 +95,14 @@ module _ {K : Kind} (C : Library K) (linked : Linked C) (sort : ℕ → C .Sort)
               (subst (λ (y : C .Sort). Is (C .class y .code .layout) (C .class y .part .num) (step s (both i a j b k) .0) a (u .after .header) (u .after .entries)) (sym sa) (x .first)))
               (λ l z. subst (λ (y : C .Sort). Is (C .class y .code .layout) (C .class y .part .num) (step s (both i a j b k) .0) b (w' b .header) (w' b .entries)) (sym sb) (x .second))
               (λ y p q. both-kept s y i a j b k apart p q) off,
-          x .code,
-          x .handed,
+          record { answer = x .code; handed = x .handed; words = x .words },
         )
     happened e (inits o n r v told words room d entries) off =
         let P = C .class (sort o) .part in
         let x =
         makes P (linked .fits (sort o)) (C .class (sort o) .code .layout) s g o n (w o .header) (w o .entries) r (w' o .header) v words room (linked .told (sort o) n told) d in (
           one-touched (created s o (P .num n) .0) o (here r x) (λ y z. create-kept s y o (P .num n) v z) off,
-          x .code,
-          subst (λ (l : List Woken). Handed l [] []) (sym (create-silent s o o (P .num n) v)) refl,
+          silent (quiet (create o (P .num n)) (reply r) (o ∷ [])) (step s (create o (P .num n))) (x .code) (create-silent s o o (P .num n) v) refl refl,
         )
       where
         here : (r : ℤ) → Turns (C .class (sort o) .code .layout) (C .class (sort o) .part .num) s o (create o (C .class (sort o) .part .num n)) r (w' o .header) (w o .entries)
@@ -114,8 +120,7 @@ module _ {K : Kind} (C : Library K) (linked : Linked C) (sort : ℕ → C .Sort)
         let m : Allowed r (Is L num (left s i o) o (set (w o .header) (L .len) k) (w' o .entries)) =
         subst (λ (y : State). Allowed r (Is L num (expired y s i .0) o (set (w o .header) (L .len) k) (w' o .entries))) state (x .is) in (
           subst (λ (y : State). Shows C sort (expired y s i .0) w') (sym state) (one-touched (left s i o) o (here r c m) (λ y z. left-kept s y i o z) off),
-          x .code,
-          subst (λ (y : State). Handed (expired y s i .2) [] []) (sym state) refl,
+          silent (quiet (expire i) (reply r) (o ∷ [])) (step s (expire i)) (x .code) (rw state refl) refl refl,
         )
       where
         here : (r : ℤ) → reply r ≡ done ok
@@ -126,8 +131,7 @@ module _ {K : Kind} (C : Library K) (linked : Linked C) (sort : ℕ → C .Sort)
         here (negsuc c) e y m z = absurd (let l : _≡_ {A = ℕ} 0 1 = cc in omega arith)
     happened e (moves x z) off = (
       λ y. stays (step s x .0) y (moves-kept s y x z .0) (off y tt),
-      refl,
-      subst (λ (l : List Woken). Handed l [] []) (sym (moves-kept s 0 x z .1)) refl,
+      silent (quiet x (step s x .1) []) (step s x) refl (moves-kept s 0 x z .1) refl refl,
     )
 
   -- any number of them
@@ -140,4 +144,4 @@ module _ {K : Kind} (C : Library K) (linked : Linked C) (sort : ℕ → C .Sort)
   histories s g w shows (e ∷ es) w' (then {w' = v} ran h off) =
       let past = histories s g w shows es v ran in
       let now = happened (after s (ops es)) (after-fine s g es) v w' (past .shows) e h off in
-      record { shows = now .0; agree = (now .1, now .2, past .agree); untouched = λ o a. off o (a .0) ∙ past .untouched o (a .1) }
+      record { shows = now .0; agree = (now .1, past .agree); untouched = λ o a. off o (a .0) ∙ past .untouched o (a .1) }

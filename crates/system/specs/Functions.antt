@@ -3,8 +3,9 @@ use mathlib.Core.Path.{_≡_}
 use mathlib.Core.Bool.{Bool, true, false, cond}
 use mathlib.Core.List.{List, [], _∷_}
 use Prim.Native.Nat.{ℕ, _<_}
-use lib.IntN.{ℤ}
-use lib.ListN.{length}
+use lib.Dec.{eqb}
+use lib.IntN.{ℤ, pos, negsuc}
+use lib.ListN.{length, take}
 use Rattle.wait_queue.specs.Post.{Told, Listed}
 use Rattle.kind.specs.Kind.{Kind}
 use Rattle.kind.specs.Object.{Out, Layout, on, Does}
@@ -46,6 +47,8 @@ pub record Function (A : Kind) : Type 1 where
   pub asks : Bool
   -- how many words it is to be lent for woken threads, where n wait
   pub room : ℕ → ℕ
+  -- how many words it wrote there, where it was answered r
+  pub wrote : ℕ → ℕ
   pub Contract : Use → Type 0
 
 -- a function on an object of the kind A and one of the kind B: both calls or neither. The use is that of the first object; then the second's
@@ -53,7 +56,16 @@ pub record Function (A : Kind) : Type 1 where
 pub record Double (A B : Kind) : Type 1 where
   pub first : A .Call
   pub second : B .Call
+  pub wrote : ℕ → ℕ
   pub Contract : Use → Memory → Memory → Type 0
+
+-- the words that it wrote, as many as its answer says; a refusal wrote none
+abbrev pub heard : (ℕ → ℕ) → ℤ → ℕ
+heard c (pos r) = c r
+heard c (negsuc r) = 0
+
+abbrev pub told : (ℕ → ℕ) → Use → List ℕ
+told c u = take (heard c (u .answer)) (u .filled)
 
 module _ {N : Type 0} (L : Layout N) where
   abbrev pub Did : (N → List ℕ → Out N) → Use → Type 0
@@ -81,7 +93,7 @@ module _ {N : Type 0} (L : Layout N) where
     pub does : Did (f (length (u .lent))) u
     pub listed : Listed (given (f (length (u .lent))) u) (u .lent) (u .filled)
 
--- how many words are lent: none; one; as many as wait
+-- how many words are lent, or written: none; one; as many as wait, or as the answer says; one, if the answer is a
 abbrev pub nobody : ℕ → ℕ
 nobody n = 0
 
@@ -91,31 +103,34 @@ single n = 1
 abbrev pub everyone : ℕ → ℕ
 everyone n = n
 
+abbrev pub onlyAt : ℕ → ℕ → ℕ
+onlyAt a r = cond (eqb r a) 1 0
+
 pub data SemFn : Type 0 where
   give tryTake takeBlocking reset : SemFn
 
 abbrev pub semFn : SemFn → Function sem-kind
-semFn give = record { call = sem.give; asks = false; room = single; Contract = InWord semaphore.layout semaphore.giveOut }
-semFn tryTake = record { call = sem.tryTake; asks = false; room = nobody; Contract = Silent semaphore.layout semaphore.tryTakeOut }
+semFn give = record { call = sem.give; asks = false; room = single; wrote = onlyAt 0; Contract = InWord semaphore.layout semaphore.giveOut }
+semFn tryTake = record { call = sem.tryTake; asks = false; room = nobody; wrote = nobody; Contract = Silent semaphore.layout semaphore.tryTakeOut }
 semFn takeBlocking =
-    record { call = sem.take; asks = true; room = nobody; Contract = λ u. Silent semaphore.layout (semaphore.takeOut (u .id) (u .priority) (u .state)) u }
-semFn reset = record { call = sem.reset; asks = false; room = everyone; Contract = InSlice semaphore.layout semaphore.resetOut }
+    record { call = sem.take; asks = true; room = nobody; wrote = nobody; Contract = λ u. Silent semaphore.layout (semaphore.takeOut (u .id) (u .priority) (u .state)) u }
+semFn reset = record { call = sem.reset; asks = false; room = everyone; wrote = everyone; Contract = InSlice semaphore.layout semaphore.resetOut }
 
 pub data MutexFn : Type 0 where
   tryLock lockBlocking unlock : MutexFn
 
 abbrev pub mutexFn : MutexFn → Function mutex-kind
-mutexFn tryLock = record { call = mutex.tryLock; asks = false; room = nobody; Contract = λ u. Silent lock.layout (lock.tryLockOut (u .id)) u }
+mutexFn tryLock = record { call = mutex.tryLock; asks = false; room = nobody; wrote = nobody; Contract = λ u. Silent lock.layout (lock.tryLockOut (u .id)) u }
 mutexFn lockBlocking =
-    record { call = mutex.lock; asks = true; room = nobody; Contract = λ u. Silent lock.layout (lock.lockOut (u .id) (u .priority) (u .state)) u }
-mutexFn unlock = record { call = mutex.unlock; asks = false; room = single; Contract = λ u. InWord lock.layout (lock.unlockOut (u .id)) u }
+    record { call = mutex.lock; asks = true; room = nobody; wrote = nobody; Contract = λ u. Silent lock.layout (lock.lockOut (u .id) (u .priority) (u .state)) u }
+mutexFn unlock = record { call = mutex.unlock; asks = false; room = single; wrote = onlyAt 2; Contract = λ u. InWord lock.layout (lock.unlockOut (u .id)) u }
 
 pub data CondvarFn : Type 0 where
   signal broadcast : CondvarFn
 
 abbrev pub condvarFn : CondvarFn → Function condvar-kind
-condvarFn signal = record { call = condvar.signal; asks = false; room = single; Contract = InWord condition.layout condition.signalOut }
-condvarFn broadcast = record { call = condvar.broadcast; asks = false; room = everyone; Contract = InSlice condition.layout condition.broadcastOut }
+condvarFn signal = record { call = condvar.signal; asks = false; room = single; wrote = everyone; Contract = InWord condition.layout condition.signalOut }
+condvarFn broadcast = record { call = condvar.broadcast; asks = false; room = everyone; wrote = everyone; Contract = InSlice condition.layout condition.broadcastOut }
 
 pub data FutexFn : Type 0 where
   wait : (expected : ℕ) → FutexFn
@@ -129,10 +144,10 @@ wakeRoom false n = 1
 
 abbrev pub futexFn : FutexFn → Function futex-kind
 futexFn (wait x) =
-    record { call = futex.wait x; asks = true; room = nobody; Contract = λ u. Silent value.layout (value.waitOut x (u .id) (u .priority) (u .state)) u }
+    record { call = futex.wait x; asks = true; room = nobody; wrote = nobody; Contract = λ u. Silent value.layout (value.waitOut x (u .id) (u .priority) (u .state)) u }
 futexFn (wake all) =
-    record { call = value.wakeCall all; asks = false; room = wakeRoom all; Contract = InSlice value.layout (value.wakeOut all) }
-futexFn (valSet x) = record { call = futex.set x; asks = false; room = nobody; Contract = Silent value.layout (value.setOut x) }
+    record { call = value.wakeCall all; asks = false; room = wakeRoom all; wrote = everyone; Contract = InSlice value.layout (value.wakeOut all) }
+futexFn (valSet x) = record { call = futex.set x; asks = false; room = nobody; wrote = nobody; Contract = Silent value.layout (value.setOut x) }
 
 -- wait_blocking, of a condition variable and the mutex that it gives back, whose entries it does not write
 pub record WaitedWith (u : Use) (c c' : Memory) : Type 0 where
@@ -145,4 +160,4 @@ pub record WaitedWith (u : Use) (c c' : Memory) : Type 0 where
       (c' .header) (c' .entries) (u .after .header) who'
 
 abbrev pub waitBlocking : Double mutex-kind condvar-kind
-waitBlocking = record { first = mutex.release; second = condvar.wait; Contract = WaitedWith }
+waitBlocking = record { first = mutex.release; second = condvar.wait; wrote = onlyAt 2; Contract = WaitedWith }

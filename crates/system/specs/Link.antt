@@ -14,7 +14,7 @@ use Rattle.condvar.specs.Post.{Allowed}
 use Rattle.system.specs.System.{running, ready, number, object, Sys, Op, both, reply, Woken, called, step}
 use Rattle.system.specs.Part.{Part}
 use Rattle.system.specs.Rules.{Fine}
-use Rattle.system.specs.Functions.{Memory, Use, Function, Double}
+use Rattle.system.specs.Functions.{Memory, Use, Function, Double, told}
 
 -- the header h and the entries e are the object o of s
 pub record Is {K : Kind} {N : Type 0} (L : Layout N) (num : N → K .Num) (s : Sys K) (o : ℕ) (h e : List ℕ) : Type 0 where
@@ -48,27 +48,29 @@ pub record Caller {A K : Kind} (F : Function A) (s : Sys K) (i o : ℕ) (u : Use
   pub runs : F .asks ≡ false → s .state i ≡ running
   pub room : F .room (length (s .queue o)) ≤ length (u .lent)
 
--- the use u of a function on the object o is the call k of the thread i in s
-pub record Steps {K : Kind} {N : Type 0} (L : Layout N) (num : N → K .Num) (s : Sys K) (i o : ℕ) (k : K .Call) (u : Use) : Type 0 where
+-- the use u of a function on the object o is the call k of the thread i in s; c: how many words it wrote, by its answer
+pub record Steps {K : Kind} {N : Type 0} (L : Layout N) (num : N → K .Num) (s : Sys K) (i o : ℕ) (k : K .Call) (c : ℕ → ℕ) (u : Use) : Type 0 where
   pub code : u .answer ≡ called s i o k .1
   pub is : Is L num (called s i o k .0) o (u .after .header) (u .after .entries)
   pub handed : Handed (called s i o k .2) (u .lent) (u .filled)
+  pub words : told c u ≡ map word (called s i o k .2)
   pub readies : Readies s i (called s i o k .2) (called s i o k .0)
 
 -- so it is wherever the function F meets its contract, in any system that has such objects
 abbrev pub Links : {A K : Kind} → Part A K → Layout (A .Num) → Function A → Type 0
 Links {A} {K} P L F =
     (s : Sys K) → Fine s → (i o : ℕ) (u : Use) → Is L (P .num) s o (u .before .header) (u .before .entries) → Caller F s i o u → F .Contract u
-    → Steps L (P .num) s i o (P .call (F .call)) u
+    → Steps L (P .num) s i o (P .call (F .call)) (F .wrote) u
 
 -- the use u of a function on the object a, and on the object b, of which the memory c is left, is that the thread i calls j of a and k of b in s,
 -- both or neither
 pub record Pairs {K : Kind} {M N : Type 0} (A : Layout M) (f : M → K .Num) (B : Layout N) (g : N → K .Num) (s : Sys K)
-    (i a : ℕ) (j : K .Call) (b : ℕ) (k : K .Call) (u : Use) (c : Memory) : Type 0 where
+    (i a : ℕ) (j : K .Call) (b : ℕ) (k : K .Call) (n : ℕ → ℕ) (u : Use) (c : Memory) : Type 0 where
   pub code : reply (u .answer) ≡ step s (both i a j b k) .1
   pub first : Is A f (step s (both i a j b k) .0) a (u .after .header) (u .after .entries)
   pub second : Is B g (step s (both i a j b k) .0) b (c .header) (c .entries)
   pub handed : Handed (step s (both i a j b k) .2) (u .lent) (u .filled)
+  pub words : told n u ≡ map word (step s (both i a j b k) .2)
   pub readies : Readies s i (step s (both i a j b k) .2) (step s (both i a j b k) .0)
 
 -- so it is of a function on two objects
@@ -76,7 +78,7 @@ abbrev pub LinksBoth : {A B K : Kind} → Part A K → Layout (A .Num) → Part 
 LinksBoth {A} {B} {K} P L Q M F =
     (s : Sys K) → Fine s → (i a b : ℕ) → (a ≡ b → ⊥) → (u : Use) (c c' : Memory) → Is L (P .num) s a (u .before .header) (u .before .entries)
     → Is M (Q .num) s b (c .header) (c .entries) → Truthful s i u → F .Contract u c c'
-    → Pairs L (P .num) M (Q .num) s i a (P .call (F .first)) b (Q .call (F .second)) u c'
+    → Pairs L (P .num) M (Q .num) s i a (P .call (F .first)) b (Q .call (F .second)) (F .wrote) u c'
 
 -- an operation on the memory of the object o, of which h', e' are left, with the answer r, is the operation x in s
 pub record Turns {K : Kind} {N : Type 0} (L : Layout N) (num : N → K .Num) (s : Sys K) (o : ℕ) (x : Op K) (r : ℤ) (h' e' : List ℕ) : Type 0 where

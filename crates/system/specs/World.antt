@@ -10,11 +10,11 @@ use Rattle.wait_queue.specs.Turn.{remove}
 use Rattle.wait_queue.specs.Post as queue
 use Rattle.kind.specs.Kind.{Kind}
 use Rattle.kind.specs.Object.{Layout, Started}
-use Rattle.system.specs.System.{vacant, object, waiting, Sys, Op, invoke, both, dispatch, yield, expire, spawn, create, Answer, reply, step, after}
+use Rattle.system.specs.System.{vacant, object, waiting, Sys, Op, invoke, both, dispatch, yield, expire, spawn, create, Answer, reply, Reply, step, after}
 use Rattle.system.specs.Part.{Part}
 use Rattle.system.specs.Rules.{Fine}
-use Rattle.system.specs.Functions.{Memory, Use, Function, Double}
-use Rattle.system.specs.Link.{Is, Handed, Truthful, Caller}
+use Rattle.system.specs.Functions.{Memory, Use, Function, Double, told}
+use Rattle.system.specs.Link.{Is, word, Handed, Truthful, Caller}
 
 -- the code of a kind of object: where an object stands in a header, its functions, and which numbers its init can be told: they have 32 bits
 pub record Code (A : Kind) : Type 1 where
@@ -49,17 +49,26 @@ pub record Event (K : Kind) : Type 0 where
   pub answer : Answer
   pub lent : List ℕ
   pub filled : List ℕ
+  -- the words in it that are read, as many as the answer says
+  pub told : List ℕ
   pub on : List ℕ
 
 -- a function's use, on the objects l; and what nobody lends a place for
-abbrev pub seen : {K : Kind} → Op K → Use → List ℕ → Event K
-seen x u l = record { op = x; answer = reply (u .answer); lent = u .lent; filled = u .filled; on = l }
+abbrev pub seen : {K : Kind} → Op K → (ℕ → ℕ) → Use → List ℕ → Event K
+seen x c u l = record { op = x; answer = reply (u .answer); lent = u .lent; filled = u .filled; told = told c u; on = l }
 
 abbrev pub quiet : {K : Kind} → Op K → Answer → List ℕ → Event K
-quiet x a l = record { op = x; answer = a; lent = []; filled = []; on = l }
+quiet x a l = record { op = x; answer = a; lent = []; filled = []; told = []; on = l }
 
 abbrev pub ops : {K : Kind} → List (Event K) → List (Op K)
 ops es = map (λ e. e .op) es
+
+-- the answer of the event is that of the reply y of the system; in the place that was lent stand the words of the threads that it wakes; and these are
+-- the words that are read
+pub record Agrees {K : Kind} (e : Event K) (y : Reply K) : Type 0 where
+  pub answer : e .answer ≡ y .1
+  pub handed : Handed (y .2) (e .lent) (e .filled)
+  pub words : e .told ≡ map word (y .2)
 
 -- no memory but that of the objects l changed: a function writes only what it is lent, and no two objects share memory
 abbrev pub Elsewhere : List ℕ → World → World → Type 0
@@ -80,6 +89,13 @@ module _ {K : Kind} (C : Library K) (sort : ℕ → C .Sort) where
   abbrev pub class : ℕ → Class K
   class o = C .class (sort o)
 
+  -- the calls of a function on two objects
+  abbrev pub firstCall : C .Two → K .Call
+  firstCall t = C .class (C .first t) .part .call (C .double t .first)
+
+  abbrev pub secondCall : C .Two → K .Call
+  secondCall t = C .class (C .second t) .part .call (C .double t .second)
+
   -- the memory m is the object o of s
   abbrev pub Holds : Sys K → ℕ → Memory → Type 0
   Holds s o m = Is (class o .code .layout) (class o .part .num) s o (m .header) (m .entries)
@@ -93,12 +109,12 @@ module _ {K : Kind} (C : Library K) (sort : ℕ → C .Sort) where
     -- the function f was called, by the thread i, on the object o, which is there
     calls : (i o : ℕ) (n : K .Num) (f : class o .code .Fn) (u : Use) → s .slot o ≡ object n → u .before ≡ w o → w' o ≡ u .after
         → Caller (class o .code .function f) s i o u → class o .code .function f .Contract u
-        → Happens s w w' (seen (invoke i o (class o .part .call (class o .code .function f .call))) u (o ∷ []))
+        → Happens s w w' (seen (invoke i o (class o .part .call (class o .code .function f .call))) (class o .code .function f .wrote) u (o ∷ []))
     -- the function t on two objects, which are there and are two
     pairs : (i a b : ℕ) (m n : K .Num) (t : C .Two) (u : Use) → sort a ≡ C .first t → sort b ≡ C .second t → (a ≡ b → ⊥)
         → s .slot a ≡ object m → s .slot b ≡ object n → u .before ≡ w a → w' a ≡ u .after → Truthful s i u
         → C .double t .Contract u (w b) (w' b)
-        → Happens s w w' (seen (both i a (C .class (C .first t) .part .call (C .double t .first)) b (C .class (C .second t) .part .call (C .double t .second))) u (a ∷ b ∷ []))
+        → Happens s w w' (seen (both i a (firstCall t) b (secondCall t)) (C .double t .wrote) u (a ∷ b ∷ []))
     -- init, in a slot that is vacant and in memory that is long enough
     inits : (o : ℕ) (n : class o .kind .Num) (r : ℤ) → s .slot o ≡ vacant → class o .code .Told n
         → class o .code .layout .words ≤ length (w o .header) → maxWaiters ≤ length (w o .entries)
@@ -118,10 +134,10 @@ module _ {K : Kind} (C : Library K) (sort : ℕ → C .Sort) where
     then : {es : List (Event K)} {e : Event K} {w' w'' : World} → Ran s w es w' → Happens (after s (ops es)) w' w'' e → Elsewhere (e .on) w' w''
         → Ran s w (e ∷ es) w''
 
-  -- each answer, and each word that was handed out, is that of the step
+  -- so is each event
   abbrev pub Agree : Sys K → List (Event K) → Type 0
   Agree s [] = Unit {0}
-  Agree s (e ∷ es) = (e .answer ≡ step (after s (ops es)) (e .op) .1) × Handed (step (after s (ops es)) (e .op) .2) (e .lent) (e .filled) × Agree s es
+  Agree s (e ∷ es) = Agrees e (step (after s (ops es)) (e .op)) × Agree s es
 
   pub record Follows (s : Sys K) (w : World) (es : List (Event K)) (w' : World) : Type 0 where
     pub shows : Shows (after s (ops es)) w'
