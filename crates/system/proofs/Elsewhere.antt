@@ -1,7 +1,7 @@
 -- What an operation leaves of the objects that it does not touch, and that those of the kernel alone wake nobody. Assumes nothing.
 use mathlib.Core.Path.{_≡_, refl, sym, _∙_}
 use mathlib.Core.Bool.{Bool, true, false, cond}
-use mathlib.Core.List.{List, []}
+use mathlib.Core.List.{[]}
 use Prim.Native.Nat.{ℕ}
 use native.Mathlib.Omega.{arith}
 use lib.Dec.{ltb}
@@ -10,7 +10,7 @@ use borrow.Author.Tests.{ne-eqb}
 use Rattle.thread.specs.Code.{ok, einval}
 use Rattle.thread.specs.Priority.{valid}
 use Rattle.kind.specs.Kind.{Kind}
-use Rattle.system.specs.System.{State, absent, running, ready, waiting, Slot, vacant, object, Sys, Op, invoke, both, dispatch, yield, expire, spawn, create, Reply, denied, accept, refuse, unless, gone-by, called, dispatched, yielded, left, spawned, born, placed, created, answers, step}
+use Rattle.system.specs.System.{State, absent, running, ready, waiting, vacant, object, Sys, Op, invoke, both, dispatch, yield, expire, spawn, create, Reply, denied, accept, refuse, unless, gone-by, called, dispatched, yielded, left, spawned, born, placed, created, answers, step}
 use Rattle.system.specs.World.{OfThreads}
 use Rattle.system.proofs.Link.{slot-kept, queue-kept}
 

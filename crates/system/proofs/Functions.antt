@@ -1,7 +1,7 @@
 -- Each function of the four objects: by its contract, what it does to an object's memory is the step of any system that has such objects. Assumes
 -- nothing.
 use mathlib.Core.Path.{_≡_, refl, sym, ap}
-use mathlib.Core.Bool.{Bool, true, false}
+use mathlib.Core.Bool.{true, false}
 use mathlib.Core.List.{List, [], _∷_, map}
 use Prim.Native.Nat.{ℕ, _≤_}
 use native.Mathlib.Omega.{arith}

@@ -34,4 +34,5 @@ pub mod WaitBlocking
 pub mod Elsewhere
 pub mod Worlds
 pub mod Library
+pub mod WorldExample
 pub mod Example

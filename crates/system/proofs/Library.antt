@@ -1,6 +1,6 @@
 -- The code of the four objects is the system's: any history of its calls on objects in memory is one of the system. To add a kind is one line here.
 -- Assumes nothing.
-use mathlib.Core.Path.{_≡_, refl, ap}
+use mathlib.Core.Path.{_≡_, refl}
 use mathlib.Core.Bool.{false}
 use mathlib.Core.Logic.{_⊎_, inl, inr}
 use mathlib.Core.List.{List}
@@ -10,14 +10,9 @@ use lib.ListN.{getD, set}
 use lib.Seq.{getD-set-other}
 use borrow.Author.Tests.{lt-ltb}
 use Rattle.kind.specs.Kind.{Kind, Lawful}
-use Rattle.sem.specs.Sem.{Sem}
-use Rattle.mutex.specs.Mutex.{Mutex}
-use Rattle.mutex.specs.Post.{ownerIn}
-use Rattle.futex.specs.Futex.{Futex}
 use Rattle.system.specs.Part.{Part, whole}
 use Rattle.system.specs.Sum.{Member, _⊕_, inLeft, inRight}
 use Rattle.system.specs.Rtos.{rtos}
-use Rattle.system.specs.System.{Sys}
 use Rattle.system.specs.Link.{Links}
 use Rattle.system.specs.World.{Code, Histories}
 use Rattle.system.specs.Library.{Stock, only, _⊞_, semCode, mutexCode, condvarCode, futexCode, stock, aLock, aCondition, library}

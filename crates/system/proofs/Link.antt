@@ -2,7 +2,7 @@
 use mathlib.Core.Path.{_≡_, refl, sym, ap, _∙_}
 use mathlib.Core.Bool.{Bool, true, false, cond}
 use mathlib.Core.List.{List, [], _∷_, map}
-use Prim.Native.Nat.{ℕ, suc, _≤_}
+use Prim.Native.Nat.{ℕ, _≤_}
 use native.Mathlib.Omega.{arith}
 use lib.Dec.{leb}
 use lib.IntN.{ℤ, pos, negsuc}
@@ -12,7 +12,7 @@ use borrow.Author.Tests.{eq-eqb, ne-eqb, le-leb, leb-true}
 use Rattle.seq.proofs.Order.{clash}
 use Rattle.seq.proofs.Back.{back-length}
 use Rattle.wait_queue.specs.Queue.{maxWaiters, waiting, roomy}
-use Rattle.wait_queue.specs.Post.{Told, Listed}
+use Rattle.wait_queue.specs.Post.{Told}
 use Rattle.kind.specs.Kind.{Kind, Lawful}
 use Rattle.kind.specs.Object.{Out, Layout, on, Does}
 use Rattle.kind.proofs.Memory.{is-on}

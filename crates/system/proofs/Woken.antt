@@ -8,7 +8,6 @@ use lib.Dec.{eqb, ltb}
 use lib.IntN.{ℤ, pos, negsuc}
 use lib.ListN.{length, length-map}
 use borrow.Author.Tests.{eq-eqb, ne-eqb}
-use Rattle.seq.specs.Word as half
 use Rattle.seq.specs.List.{All}
 use Rattle.thread.specs.Code.{enomem, ebusy}
 use Rattle.thread.specs.Caller.{callerCode}
@@ -17,7 +16,7 @@ use Rattle.wait_queue.specs.Queue as queue
 use Rattle.wait_queue.specs.Turn.{refuse, waits, parked}
 use Rattle.kind.specs.Verdict.{Pick, gone, keep, park, wake, Verdict, deny, allow}
 use Rattle.kind.specs.Kind.{Kind}
-use Rattle.kind.specs.Object.{Out, refused, thread, carried}
+use Rattle.kind.specs.Object.{Out, thread, carried}
 use Rattle.system.specs.Sum.{mapped}
 use Rattle.system.specs.System.{ready, number, Slot, object, Sys, Woken, deed, woken, unless, serve, outcome, verdict, visited, called}
 use Rattle.system.specs.Rules.{Fine}

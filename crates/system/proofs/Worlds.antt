@@ -8,15 +8,14 @@ use lib.Dec.{eqb}
 use lib.IntN.{ℤ, pos, negsuc}
 use lib.ListN.{set}
 use borrow.Author.Tests.{eqb-true, eqb-false}
-use Rattle.seq.specs.List.{All}
 use Rattle.thread.specs.Code.{ok}
 use Rattle.kind.specs.Kind.{Kind, Lawful}
 use Rattle.condvar.specs.Post.{Allowed}
-use Rattle.system.specs.System.{State, waiting, object, Sys, Woken, Reply, expired, both, expire, create, left, created, done, denied, reply, step, after, called}
+use Rattle.system.specs.System.{State, object, Sys, Woken, Reply, expired, both, expire, create, left, created, done, reply, step, after, called}
 use Rattle.system.specs.Rules.{Fine}
-use Rattle.system.specs.Functions.{Memory, Use}
-use Rattle.system.specs.Link.{Is, word, Handed, Links, LinksBoth, Steps, Pairs, Turns}
-use Rattle.system.specs.World.{Library, World, Event, quiet, ops, Agrees, Elsewhere, Holds, Shows, Happens, calls, pairs, inits, removes, moves, Ran, begun, then, Agree, Follows, Histories}
+use Rattle.system.specs.Functions.{Memory}
+use Rattle.system.specs.Link.{Is, word, Handed, Links, LinksBoth, Turns}
+use Rattle.system.specs.World.{Library, World, Event, quiet, ops, Agrees, Elsewhere, Holds, Shows, Happens, calls, pairs, inits, removes, moves, begun, then, Histories}
 use Rattle.system.proofs.Steps.{step-fine}
 use Rattle.system.proofs.Sheets.{Fits}
 use Rattle.system.proofs.Link.{is-kept}

@@ -1,22 +1,21 @@
 -- The code of the objects of the system. To add a kind is one line here.
 use mathlib.Core.Logic.{_⊎_, inl, inr}
-use Prim.Native.Nat.{ℕ, _<_}
+use Prim.Native.Nat.{_<_}
 use mathlib.Core.Path.{_≡_}
 use Rattle.kind.specs.Kind.{Kind}
-use Rattle.sem.specs.Sem.{Sem, sem-kind}
+use Rattle.sem.specs.Sem.{Sem}
 use Rattle.sem.specs.Post as semaphore
 use Rattle.mutex.specs.Mutex as mutex
-use Rattle.mutex.specs.Mutex.{Mutex, mutex-kind}
+use Rattle.mutex.specs.Mutex.{Mutex}
 use Rattle.mutex.specs.Post as lock
-use Rattle.condvar.specs.Condvar.{condvar-kind}
 use Rattle.condvar.specs.Post as condition
-use Rattle.futex.specs.Futex.{Futex, futex-kind}
+use Rattle.futex.specs.Futex.{Futex}
 use Rattle.futex.specs.Post as value
 use Rattle.system.specs.Part.{Part, whole}
 use Rattle.system.specs.Sum.{Member, _⊕_, inLeft, inRight}
 use Rattle.system.specs.Rtos.{sems, mutexes, condvars, futexes, members, rtos}
 use Rattle.system.specs.Functions.{SemFn, semFn, MutexFn, mutexFn, CondvarFn, condvarFn, FutexFn, futexFn, waitBlocking}
-use Rattle.system.specs.World.{Code, Class, Library}
+use Rattle.system.specs.World.{Code, Library}
 
 -- the code of a member, in any system that has it
 pub record Stock (M : Member) : Type 1 where
