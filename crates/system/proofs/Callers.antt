@@ -19,11 +19,11 @@ use Rattle.system.specs.System.{absent, running, number, Sys, deed, stat
 use Rattle.system.specs.System as system
 use Rattle.system.specs.Rules.{times, Fine}
 use Rattle.system.specs.Functions.{Use, Did, given, heard, Silent, InWord, InSlice}
-use Rattle.system.specs.Link.{Is, word, Truthful, Steps}
+use Rattle.system.specs.Link.{Is, read, word, Truthful, Steps}
 use Rattle.system.proofs.Times.{times-pick, not-held}
 use Rattle.system.proofs.Sheets.{Fits}
 use Rattle.system.proofs.Parts.{wrapped, call-part}
-use Rattle.system.proofs.Woken.{Within, within-part, handed-out, handed-few, handed-count, call-readies}
+use Rattle.system.proofs.Woken.{Within, within-part, handed-out, handed-few, handed-read, handed-count, call-readies}
 use Rattle.system.proofs.Link.{tells, gives, leaves, in-none, in-word, read-all}
 
 -- nobody is to wait
@@ -95,9 +95,11 @@ module _ {A K : Kind} (law : Lawful K) (P : Part A K) (fits : Fits P) (L : Layou
             code = code;
             is = leaves law L (P .num) s g i o (P .call k) f h e is same (u .answer) (u .after .header) (u .after .entries) d;
             handed = x;
-            words =
-                read-all (called s i o (P .call k) .2) (heard c (u .answer)) (u .lent) (u .filled) x
-                (handed-count s g i o (P .call k) (P .num n) (is .slot) m c whole ∙ ap (heard c) (sym code));
+            reads =
+                ap (map read)
+                (read-all (called s i o (P .call k) .2) (heard c (u .answer)) (u .lent) (u .filled) x
+                (handed-count s g i o (P .call k) (P .num n) (is .slot) m c whole ∙ ap (heard c) (sym code)))
+                ∙ handed-read s g i o (P .call k) (P .num n) (is .slot) m c whole;
             readies = call-readies s g i o (P .call k) (P .num n) (is .slot);
           }
 

@@ -6,9 +6,11 @@ use mathlib.Core.List.{List, [], _∷_, map}
 use Prim.Native.Nat.{ℕ, _≤_}
 use native.Mathlib.Omega.{arith}
 use lib.Dec.{eqb, ltb}
+use lib.IntN.{ℤ}
 use lib.ListN.{length, length-map}
+use Rattle.seq.specs.Word.{word}
 use Rattle.seq.specs.List.{any}
-use Rattle.thread.specs.Code.{ebusy}
+use Rattle.thread.specs.Code.{ok, eagain, ebusy}
 use Rattle.wait_queue.specs.Queue.{ident}
 use Rattle.kind.specs.Verdict.{Verdict, deny}
 use Rattle.kind.specs.Kind.{Kind, Lawful, plain}
@@ -26,7 +28,7 @@ use Rattle.futex.specs.Futex.{Futex, futex-kind}
 use Rattle.futex.specs.Post as value
 use Rattle.system.specs.Part.{Part}
 use Rattle.system.specs.Functions.{nobody, single, everyone, onlyAt, SemFn, give, tryTake, takeBlocking, reset, semFn, MutexFn, tryLock, lockBlocking, unlock, mutexFn, CondvarFn, signal, broadcast, condvarFn, FutexFn, wait, wake, valSet, wakeRoom, futexFn}
-use Rattle.system.specs.Link.{Links}
+use Rattle.system.specs.Link.{signed, Links}
 use Rattle.system.proofs.Sheets.{Fits}
 use Rattle.system.proofs.Woken.{Within, within}
 use Rattle.system.proofs.Callers.{Unparked, unparked, by-thread, by-name, by-word, by-slice}
@@ -51,7 +53,7 @@ locks-within n w q d x =
 
 passes-within : (q : List ℕ) → Within single (onlyAt 2) q (passes (map ident q))
 passes-within [] = refl
-passes-within (x ∷ q) = (omega arith, refl)
+passes-within (x ∷ q) = (omega arith, refl, λ t. refl)
 
 pub unlocks-within : (n : Mutex) (w : ℕ) (q : List ℕ) (d : Verdict Mutex (Unit {0})) → Within single (onlyAt 2) q d
     → Within single (onlyAt 2) q (unlocks n w (map ident q) d)
@@ -61,21 +63,21 @@ unlocks-within n w q d x =
 
 gives-within : (n : Sem) (q : List ℕ) (i : ℕ) → Within single (onlyAt 0) q (sem.decide n plain (map ident q) i sem.give)
 gives-within n [] i = within single (onlyAt 0) [] (ltb (n .count) (n .limit)) _ _ refl refl
-gives-within n (x ∷ q) i = (omega arith, refl)
+gives-within n (x ∷ q) i = (omega arith, refl, λ t. refl)
 
 gives-unparked : (n : Sem) (q : List ℕ) → Unparked (sem.decide n plain q 0 sem.give)
 gives-unparked n q = unparked (any q) _ _ tt (unparked (ltb (n .count) (n .limit)) _ _ tt tt)
 
 signals-within : (q : List ℕ) (i : ℕ) → Within single everyone q (condvar.decide tt plain (map ident q) i condvar.signal)
 signals-within [] i = refl
-signals-within (x ∷ q) i = (omega arith, refl)
+signals-within (x ∷ q) i = (omega arith, refl, λ t. refl)
 
 wakes-within : (n : Futex) (q : List ℕ) (i : ℕ) → Within (wakeRoom false) everyone q (futex.decide n plain (map ident q) i futex.wakeOne)
 wakes-within n [] i = refl
-wakes-within n (x ∷ q) i = (omega arith, refl)
+wakes-within n (x ∷ q) i = (omega arith, refl, λ t. refl)
 
-all-within : (q : List ℕ) → (length q ≤ length q) × (length q ≡ length (map ident q))
-all-within q = (omega arith, sym (length-map q ident))
+all-within : (q : List ℕ) (r : ℤ) → signed (word r) ≡ r → (length q ≤ length q) × (length q ≡ length (map ident q)) × ((t : ℕ) → signed (word r) ≡ r)
+all-within q r e = (omega arith, sym (length-map q ident), λ t. e)
 
 module _ {K : Kind} (law : Lawful K) where
   pub sem-links : (P : Part sem-kind K) → Fits P → (f : SemFn) → Links P semaphore.layout (semFn f)
@@ -92,7 +94,7 @@ module _ {K : Kind} (law : Lawful K) where
       by-thread law P fits semaphore.layout sem.take nobody nobody s g i o u is (within nobody nobody (s .queue o) (ltb 0 (n .count)) _ _ refl refl) (c .told)
       (omega arith) d
   sem-links P fits reset s g i o u is c d =
-      by-slice law P fits semaphore.layout sem.reset everyone everyone s g i o u is (all-within (s .queue o)) 0 (c .runs refl) refl tt (c .room) d
+      by-slice law P fits semaphore.layout sem.reset everyone everyone s g i o u is (all-within (s .queue o) eagain refl) 0 (c .runs refl) refl tt (c .room) d
 
   pub mutex-links : (P : Part mutex-kind K) → Fits P → (f : MutexFn) → Links P lock.layout (mutexFn f)
   mutex-links P fits tryLock s g i o u is c d =
@@ -113,14 +115,14 @@ module _ {K : Kind} (law : Lawful K) where
       by-word law P fits condition.layout condvar.signal single everyone s g i o u is (signals-within (s .queue o) i) 0 (c .runs refl) refl
       (unparked (any (map ident (s .queue o))) _ _ tt tt) (omega arith) d
   condvar-links P fits broadcast s g i o u is c d =
-      by-slice law P fits condition.layout condvar.broadcast everyone everyone s g i o u is (all-within (s .queue o)) 0 (c .runs refl) refl tt (c .room) d
+      by-slice law P fits condition.layout condvar.broadcast everyone everyone s g i o u is (all-within (s .queue o) ok refl) 0 (c .runs refl) refl tt (c .room) d
 
   pub futex-links : (P : Part futex-kind K) → Fits P → (f : FutexFn) → Links P value.layout (futexFn f)
   futex-links P fits (wait x) s g i o u is c d =
       by-thread law P fits value.layout (futex.wait x) nobody nobody s g i o u is
       (within nobody nobody (s .queue o) (eqb (value.layout .num (u .before .header) .val) x) _ _ refl refl) (c .told) (omega arith) d
   futex-links P fits (wake true) s g i o u is c d =
-      by-slice law P fits value.layout futex.wakeAll (wakeRoom true) everyone s g i o u is (all-within (s .queue o)) 0 (c .runs refl) refl tt (c .room) d
+      by-slice law P fits value.layout futex.wakeAll (wakeRoom true) everyone s g i o u is (all-within (s .queue o) ok refl) 0 (c .runs refl) refl tt (c .room) d
   futex-links P fits (wake false) s g i o u is c d =
       by-slice law P fits value.layout futex.wakeOne (wakeRoom false) everyone s g i o u is (wakes-within (value.layout .num (u .before .header)) (s .queue o) i) 0
       (c .runs refl) refl (unparked (any (map ident (s .queue o))) _ _ tt tt) (c .room) d

@@ -1,6 +1,6 @@
 -- wait_blocking: by its contract, what it does to the memory of its two objects is the step of the system. Assumes nothing.
 use mathlib.Core.Path.{_≡_, refl, sym, ap, subst, _∙_}
-use mathlib.Core.List.{List, [], _∷_, _++_}
+use mathlib.Core.List.{List, [], _∷_, _++_, map}
 use Prim.Native.Nat.{ℕ}
 use native.Mathlib.Omega.{arith}
 use lib.IntN.{ℤ, pos, negsuc}
@@ -22,10 +22,10 @@ use Rattle.system.specs.Part.{Part}
 use Rattle.system.specs.System.{ready, number, Sys, reply, called, answers}
 use Rattle.system.specs.Rules.{Fine}
 use Rattle.system.specs.Functions.{Memory, Use, heard, onlyAt, WaitedWith, waitBlocking}
-use Rattle.system.specs.Link.{Is, Handed, Truthful, Pairs, LinksBoth}
+use Rattle.system.specs.Link.{Is, read, Handed, Truthful, Pairs, LinksBoth}
 use Rattle.system.proofs.Sheets.{Fits}
 use Rattle.system.proofs.Link.{read-all}
-use Rattle.system.proofs.Waiting.{both-tell, first-is, second-is, hands, count, ready-both}
+use Rattle.system.proofs.Waiting.{both-tell, first-is, second-is, hands, count, reads-both, ready-both}
 
 module _ {K : Kind} (law : Lawful K) (P : Part mutex-kind K) (fits : Fits P) (C : Part condvar-kind K) (fitting : Fits C)
     (s : Sys K) (g : Fine s) (i a b : ℕ) (off : a ≡ b → ⊥) (u : Use) (c c' : Memory) (x : Is lock.layout (P .num) s a (u .before .header) (u .before .entries))
@@ -67,7 +67,7 @@ module _ {K : Kind} (law : Lawful K) (P : Part mutex-kind K) (fits : Fits P) (C 
         first = rw (ne-eqb a b off, l) (moved x (kept n z .2) (d .entries));
         second = rw (ne-eqb a b off, l) (moved y (kept n z .0) (kept n z .1));
         handed = rw (ne-eqb a b off, l) (d .filled ∙ ap (λ (v : ℕ). v ∷ []) (kept n z .3) ∙ sym (d .lent));
-        words = rw (ne-eqb a b off, l) (ap (λ (r : ℤ). take (heard (onlyAt 2) r) (u .filled)) z);
+        reads = rw (ne-eqb a b off, l) (ap (λ (r : ℤ). map read (take (heard (onlyAt 2) r) (u .filled))) z);
         readies = rw (ne-eqb a b off, l) (record { ready = tt; others = λ v w o. refl });
       }
     where
@@ -112,10 +112,12 @@ module _ {K : Kind} (law : Lawful K) (P : Part mutex-kind K) (fits : Fits P) (C 
                 (first-is law P fits C fitting s g i a b off h e q l x y n told v f (u .answer) q' l' m (does .1) (does .0)));
             second = rw (ne-eqb a b off, told) (second-is law P fits C fitting s g i a b off h e q l x y n told v f (u .answer) q' l' m (does .1) (does .0));
             handed = rw (ne-eqb a b off, told) hand;
-            words =
+            reads =
                 rw (ne-eqb a b off, told)
+                (ap (map read)
                 (read-all (called s i a j .2 ++ called (called s i a j .0) i b k .2) (heard (onlyAt 2) (u .answer)) (u .lent) (u .filled) hand
-                (count law P fits C fitting s g i a b off h e q l x y n told v f (u .answer) q' l' m (does .1) (does .0) ∙ ap (heard (onlyAt 2)) (sym (does .1 .code))));
+                (count law P fits C fitting s g i a b off h e q l x y n told v f (u .answer) q' l' m (does .1) (does .0) ∙ ap (heard (onlyAt 2)) (sym (does .1 .code))))
+                ∙ reads-both law P fits C fitting s g i a b off h e q l x y n told v f (u .answer) q' l' m (does .1) (does .0));
             readies = rw (ne-eqb a b off, told) (ready-both law P fits C fitting s g i a b off h e q l x y n told v f (u .answer) q' l' m (does .1) (does .0));
           }
 

@@ -27,11 +27,11 @@ use Rattle.system.specs.Sum.{mapped}
 use Rattle.system.specs.System.{State, running, ready, number, Sys, Woken, outcome, verdict, called, answers}
 use Rattle.system.specs.Rules.{Fine}
 use Rattle.system.specs.Functions.{heard, nobody, single, onlyAt}
-use Rattle.system.specs.Link.{Is, word, Handed, Readies}
+use Rattle.system.specs.Link.{Is, read, word, Handed, Readies}
 use Rattle.system.proofs.Calls.{runs, barred, called-fine}
 use Rattle.system.proofs.Sheets.{Fits}
 use Rattle.system.proofs.Parts.{wrapped, call-part}
-use Rattle.system.proofs.Woken.{Within, within-part, handed-few, handed-count, call-readies}
+use Rattle.system.proofs.Woken.{Within, within-part, handed-few, handed-read, handed-count, call-readies}
 use Rattle.system.proofs.Link.{tells, gives, leaves, in-word, prio-kept, slot-kept, queue-kept, is-kept}
 use Rattle.system.proofs.Callers.{Unparked, still}
 use Rattle.system.proofs.Functions.{unlocks-unparked, unlocks-within}
@@ -65,6 +65,10 @@ told-on : (l m : List Woken) (w w' : ℕ) → length m ≤ 0 → Told (map word 
 told-on l (y ∷ m) w w' z t = absurd (omega (arith, z))
 told-on [] [] w w' z t = t
 told-on (x ∷ l) [] w w' z t = t
+
+read-on : (l m : List Woken) → length m ≤ 0 → map read (map word l) ≡ l → map read (map word (l ++ m)) ≡ l ++ m
+read-on l (y ∷ m) z t = absurd (omega (arith, z))
+read-on l [] z t = rw (append-nil l) t
 
 length-same : (l m : List Woken) → length m ≤ 0 → length (l ++ m) ≡ length l
 length-same l (y ∷ m) z = absurd (omega (arith, z))
@@ -192,3 +196,7 @@ module _ {K : Kind} (law : Lawful K) (P : Part mutex-kind K) (fits : Fits P) (C 
     count =
         length-same (called s i a release .2) (called mid i b await .2) second-none
         ∙ handed-count s g i a release (P .num n) (x .slot) single (onlyAt 2) first-within ∙ ap (heard (onlyAt 2)) first-tells
+
+    pub reads-both : map read (map word (called s i a release .2 ++ called mid i b await .2)) ≡ called s i a release .2 ++ called mid i b await .2
+    reads-both =
+        read-on (called s i a release .2) (called mid i b await .2) second-none (handed-read s g i a release (P .num n) (x .slot) single (onlyAt 2) first-within)

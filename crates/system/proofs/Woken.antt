@@ -8,12 +8,15 @@ use lib.Dec.{eqb, ltb}
 use lib.IntN.{ℤ, pos, negsuc}
 use lib.ListN.{length, length-map}
 use borrow.Author.Tests.{eq-eqb, ne-eqb}
+use Rattle.seq.specs.Word as half
 use Rattle.seq.specs.List.{All}
 use Rattle.thread.specs.Code.{enomem, ebusy}
 use Rattle.thread.specs.Caller.{callerCode}
 use Rattle.wait_queue.specs.Queue.{maxWaiters, entry, ident, holds, joined}
 use Rattle.wait_queue.specs.Queue as queue
 use Rattle.wait_queue.specs.Turn.{refuse, waits, parked}
+use Rattle.wait_queue.proofs.Answers.{ident-entry}
+use Rattle.wait_queue.proofs.Insertion.{prio-entry}
 use Rattle.kind.specs.Verdict.{Pick, gone, keep, park, wake, Verdict, deny, allow}
 use Rattle.kind.specs.Kind.{Kind}
 use Rattle.kind.specs.Object.{Out, thread, carried}
@@ -21,15 +24,16 @@ use Rattle.system.specs.Sum.{mapped}
 use Rattle.system.specs.System.{ready, number, Slot, object, Sys, Woken, deed, woken, unless, serve, outcome, verdict, visited, called}
 use Rattle.system.specs.Rules.{Fine}
 use Rattle.system.specs.Functions.{heard}
-use Rattle.system.specs.Link.{word, Readies}
+use Rattle.system.specs.Link.{signed, read, word, Readies}
 use Rattle.system.proofs.Calls.{barred, granted}
 
--- a verdict on an object at which q wait: it wakes m n at most where n wait, by an answer that is no refusal, and as many as c says of the answer
+-- a verdict on an object at which q wait: it wakes m n at most where n wait, by an answer that is no refusal, as many as c says of the answer,
+-- and each with a result that its word tells
 abbrev pub Within : {N W : Type 0} → (ℕ → ℕ) → (ℕ → ℕ) → List ℕ → Verdict N W → Type 0
 Within m c q (deny r) = heard c r ≡ 0
 Within m c q (allow n keep r) = heard c r ≡ 0
 Within m c q (allow n (park x) r) = c 1 ≡ 0
-Within m c q (allow n (wake p f) (pos r)) = (length (gone ident p q) ≤ m (length q)) × (length (gone ident p q) ≡ c r)
+Within m c q (allow n (wake p f) (pos r)) = (length (gone ident p q) ≤ m (length q)) × (length (gone ident p q) ≡ c r) × ((t : ℕ) → signed (half.word (f t)) ≡ f t)
 Within m c q (allow n (wake p f) (negsuc r)) = ⊥
 
 module _ (m c : ℕ → ℕ) (q : List ℕ) where
@@ -66,6 +70,15 @@ words f [] = refl
 words f (x ∷ l) =
     let e : ident (ident x) ≡ ident x = omega arith in
     rw (words f l, e)
+
+reads-back : (f : ℕ → ℤ) → ((t : ℕ) → signed (half.word (f t)) ≡ f t) → (l : List ℕ)
+    → map read (map word (map (λ x. record { thread = ident x; result = f (ident x) }) l)) ≡ map (λ x. record { thread = ident x; result = f (ident x) }) l
+reads-back f h [] = refl
+reads-back f h (x ∷ l) =
+    let a : ident (entry (half.word (f (ident x))) (ident (ident x))) ≡ ident (ident x) = ident-entry (half.word (f (ident x))) (ident (ident x)) (omega arith) in
+    let b : half.high (entry (half.word (f (ident x))) (ident (ident x))) ≡ half.word (f (ident x)) = prio-entry (half.word (f (ident x))) (ident (ident x)) (omega arith) in
+    let c : ident (ident x) ≡ ident x = omega arith in
+    rw (reads-back f h l, a, b, c, h (ident x)) refl
 
 unless-none : (z : ℤ) → unless {A = List Woken} z [] [] ≡ []
 unless-none (pos c) = refl
@@ -110,6 +123,14 @@ module _ {K : Kind} (s : Sys K) (g : Fine s) (i o : ℕ) (k : K .Call) (n : K .N
     counted (allow a (wake p f) (pos r)) x = length-map (gone ident p q) _ ∙ x .1
     counted (allow a (wake p f) (negsuc r)) x = absurd x
 
+    read-again : (d : Verdict (K .Num) (K .Wish)) (z : ℤ) → Within m c q d → map read (map word (awake z d)) ≡ awake z d
+    read-again d (negsuc r) x = refl
+    read-again (deny r) (pos z) x = refl
+    read-again (allow a keep r) (pos z) x = refl
+    read-again (allow a (park y) r) (pos z) x = refl
+    read-again (allow a (wake p f) (pos r)) (pos z) x = reads-back f (x .2) (gone ident p q)
+    read-again (allow a (wake p f) (negsuc r)) (pos z) x = absurd x
+
     -- the words of the outcome are those of the step, not too many, and as many as the answer says
     module _ (x : Within m c q (verdict s i o k n)) where
       pub handed-out : outcome s i o k n .turn .woken ≡ map word l
@@ -124,6 +145,11 @@ module _ {K : Kind} (s : Sys K) (g : Fine s) (i o : ℕ) (k : K .Call) (n : K .N
       pub handed-few : length l ≤ m (length q)
       handed-few =
           subst (λ (y : Slot (K .Num)). length (visited y s i o k .2) ≤ m (length q)) (sym h) (few (verdict s i o k n) (outcome s i o k n .turn .code) x)
+
+      pub handed-read : map read (map word l) ≡ l
+      handed-read =
+          subst (λ (y : Slot (K .Num)). map read (map word (visited y s i o k .2)) ≡ visited y s i o k .2) (sym h)
+          (read-again (verdict s i o k n) (outcome s i o k n .turn .code) x)
 
       pub handed-count : length l ≡ heard c (called s i o k .1)
       handed-count =

@@ -14,7 +14,7 @@ use Rattle.condvar.specs.Post.{Allowed}
 use Rattle.system.specs.System.{State, object, Sys, Woken, Reply, expired, both, expire, create, left, created, done, reply, step, after, called}
 use Rattle.system.specs.Rules.{Fine}
 use Rattle.system.specs.Functions.{Memory}
-use Rattle.system.specs.Link.{Is, word, Handed, Links, LinksBoth, Turns}
+use Rattle.system.specs.Link.{Is, read, Handed, Links, LinksBoth, Turns}
 use Rattle.system.specs.World.{Library, World, Event, quiet, ops, Agrees, Elsewhere, Holds, Shows, Happens, calls, pairs, inits, removes, moves, begun, then, Histories}
 use Rattle.system.proofs.Steps.{step-fine}
 use Rattle.system.proofs.Sheets.{Fits}
@@ -70,7 +70,7 @@ module _ {K : Kind} (C : Library K) (linked : Linked C) (sort : ℕ → C .Sort)
         record {
           answer = a;
           handed = subst (λ (l : List Woken). Handed l (e .lent) (e .filled)) (sym z) f;
-          words = t ∙ sym (ap (map word) z);
+          reads = ap (map read) t ∙ sym z;
         }
 
     happened : (e : Event K) → Happens C sort s w w' e → Elsewhere (e .on) w w' → Stepped e
@@ -79,7 +79,7 @@ module _ {K : Kind} (C : Library K) (linked : Linked C) (sort : ℕ → C .Sort)
         let k = C .class (sort o) .part .call (F .call) in
         let x = linked .links (sort o) f s g i o u (subst (λ (m : Memory). Holds C sort s o m) (sym before) (shows o n there)) c d in (
           one-touched (called s i o k .0) o (λ m z. subst (λ (y : Memory). Holds C sort (called s i o k .0) o y) (sym after) (x .is)) (λ y z. call-kept s y i o k z) off,
-          record { answer = ap reply (x .code); handed = x .handed; words = x .words },
+          record { answer = ap reply (x .code); handed = x .handed; reads = x .reads },
         )
     happened e (pairs i a b m n t u sa sb apart ta tb before after c d) off =
         let j = C .class (C .first t) .part .call (C .double t .first) in
@@ -94,7 +94,7 @@ module _ {K : Kind} (C : Library K) (linked : Linked C) (sort : ℕ → C .Sort)
               (subst (λ (y : C .Sort). Is (C .class y .code .layout) (C .class y .part .num) (step s (both i a j b k) .0) a (u .after .header) (u .after .entries)) (sym sa) (x .first)))
               (λ l z. subst (λ (y : C .Sort). Is (C .class y .code .layout) (C .class y .part .num) (step s (both i a j b k) .0) b (w' b .header) (w' b .entries)) (sym sb) (x .second))
               (λ y p q. both-kept s y i a j b k apart p q) off,
-          record { answer = x .code; handed = x .handed; words = x .words },
+          record { answer = x .code; handed = x .handed; reads = x .reads },
         )
     happened e (inits o n r v told words room d entries) off =
         let P = C .class (sort o) .part in

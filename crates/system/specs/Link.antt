@@ -1,12 +1,14 @@
 -- An object of the system in memory, and when what a function does to this memory is the step of the system.
 use mathlib.Core.Path.{_≡_}
-use mathlib.Core.Bool.{true, false}
+use mathlib.Core.Bool.{true, false, cond}
 use mathlib.Core.List.{List, map}
-use Prim.Native.Nat.{ℕ, _≤_}
-use lib.IntN.{ℤ}
+use Prim.Native.Nat.{ℕ, _-_, _≤_}
+use lib.Dec.{ltb}
+use lib.IntN.{ℤ, pos, negsuc}
 use lib.ListN.{length, getD}
+use Rattle.seq.specs.Word.{high}
 use Rattle.seq.specs.List.{All}
-use Rattle.wait_queue.specs.Queue.{woken, waiting, roomy}
+use Rattle.wait_queue.specs.Queue.{ident, woken, waiting, roomy}
 use Rattle.wait_queue.specs.Post.{Listed}
 use Rattle.kind.specs.Kind.{Kind}
 use Rattle.kind.specs.Object.{Layout}
@@ -26,6 +28,13 @@ pub record Is {K : Kind} {N : Type 0} (L : Layout N) (num : N → K .Num) (s : S
 -- the word of a woken thread, as the functions write it: its result and its id
 abbrev pub word : Woken → ℕ
 word w = woken (w .result) (w .thread)
+
+-- and the thread that a word tells: -1 is 2^32 - 1
+abbrev pub signed : ℕ → ℤ
+signed x = cond (ltb x 2147483648) (pos x) (negsuc (4294967295 - x))
+
+abbrev pub read : ℕ → Woken
+read y = record { thread = ident y; result = signed (high y) }
 
 -- the place out, lent for woken threads, became out': in front the words of l, one for each and in this order; what is behind stays
 abbrev pub Handed : List Woken → List ℕ → List ℕ → Type 0
@@ -53,7 +62,7 @@ pub record Steps {K : Kind} {N : Type 0} (L : Layout N) (num : N → K .Num) (s 
   pub code : u .answer ≡ called s i o k .1
   pub is : Is L num (called s i o k .0) o (u .after .header) (u .after .entries)
   pub handed : Handed (called s i o k .2) (u .lent) (u .filled)
-  pub words : told c u ≡ map word (called s i o k .2)
+  pub reads : map read (told c u) ≡ called s i o k .2
   pub readies : Readies s i (called s i o k .2) (called s i o k .0)
 
 -- so it is wherever the function F meets its contract, in any system that has such objects
@@ -70,7 +79,7 @@ pub record Pairs {K : Kind} {M N : Type 0} (A : Layout M) (f : M → K .Num) (B 
   pub first : Is A f (step s (both i a j b k) .0) a (u .after .header) (u .after .entries)
   pub second : Is B g (step s (both i a j b k) .0) b (c .header) (c .entries)
   pub handed : Handed (step s (both i a j b k) .2) (u .lent) (u .filled)
-  pub words : told n u ≡ map word (step s (both i a j b k) .2)
+  pub reads : map read (told n u) ≡ step s (both i a j b k) .2
   pub readies : Readies s i (step s (both i a j b k) .2) (step s (both i a j b k) .0)
 
 -- so it is of a function on two objects

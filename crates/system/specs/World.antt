@@ -14,7 +14,7 @@ use Rattle.system.specs.System.{vacant, object, waiting, Sys, Op, invoke
 use Rattle.system.specs.Part.{Part}
 use Rattle.system.specs.Rules.{Fine}
 use Rattle.system.specs.Functions.{Memory, Use, Function, Double, told}
-use Rattle.system.specs.Link.{Is, word, Handed, Truthful, Caller}
+use Rattle.system.specs.Link.{Is, read, Handed, Truthful, Caller}
 
 -- the code of a kind of object: where an object stands in a header, its functions, and which numbers its init can be told: they have 32 bits
 pub record Code (A : Kind) : Type 1 where
@@ -63,12 +63,12 @@ quiet x a l = record { op = x; answer = a; lent = []; filled = []; told = []; on
 abbrev pub ops : {K : Kind} → List (Event K) → List (Op K)
 ops es = map (λ e. e .op) es
 
--- the answer of the event is that of the reply y of the system; in the place that was lent stand the words of the threads that it wakes; and these are
--- the words that are read
+-- the answer of the event is that of the reply y of the system; in the place that was lent stand the words of the threads that it wakes, and nothing else
+-- changed there; and these threads are read, each with its result
 pub record Agrees {K : Kind} (e : Event K) (y : Reply K) : Type 0 where
   pub answer : e .answer ≡ y .1
   pub handed : Handed (y .2) (e .lent) (e .filled)
-  pub words : e .told ≡ map word (y .2)
+  pub reads : map read (e .told) ≡ y .2
 
 -- no memory but that of the objects l changed: a function writes only what it is lent, and no two objects share memory
 abbrev pub Elsewhere : List ℕ → World → World → Type 0
