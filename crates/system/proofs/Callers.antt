@@ -1,41 +1,29 @@
 -- A function that is told its caller's numbers, a name, or nothing, in any system that has such objects. Assumes nothing.
 use mathlib.Core.Path.{_≡_, refl, sym, ap, subst, _∙_}
-use mathlib.Core.Bool.{Bool, true, false, cond}
+use mathlib.Core.Bool.{Bool, true, false}
 use mathlib.Core.List.{List, [], _∷_, map}
 use Prim.Native.Nat.{ℕ, _≤_}
 use native.Mathlib.Omega.{arith}
-use lib.IntN.{ℤ, pos, negsuc}
+use lib.IntN.{ℤ}
 use lib.ListN.{length, length-map}
 use borrow.Author.Tests.{lt-ltb, le-leb}
 use Rattle.thread.specs.Priority.{maxPriority, valid}
 use Rattle.wait_queue.specs.Queue.{ident}
 use Rattle.wait_queue.specs.Post.{Told, Listed}
-use Rattle.kind.specs.Verdict.{gone, keep, park, wake, Verdict, deny, allow}
+use Rattle.kind.specs.Verdict.{keep, park, wake, Verdict, deny, allow}
 use Rattle.kind.specs.Kind.{Kind, Lawful}
 use Rattle.kind.specs.Object as object
 use Rattle.kind.specs.Object.{Out, named, thread, carried, call, handed, Layout}
 use Rattle.system.specs.Part.{Part}
-use Rattle.system.specs.System.{absent, running, number, Sys, deed, states, unless, serve, outcome, verdict, called}
-use Rattle.system.specs.System as system
-use Rattle.system.specs.Rules.{times, Fine}
+use Rattle.system.specs.System.{absent, running, number, Sys, outcome, verdict, called}
+use Rattle.system.specs.Rules.{Fine}
 use Rattle.system.specs.Functions.{Use, Did, given, heard, Silent, InWord, InSlice}
-use Rattle.system.specs.Link.{Is, read, word, Truthful, Steps}
-use Rattle.system.proofs.Times.{times-pick, not-held}
+use Rattle.system.specs.Link.{Is, read, word, fate, Truthful, Steps}
 use Rattle.system.proofs.Sheets.{Fits}
 use Rattle.system.proofs.Parts.{wrapped, call-part}
 use Rattle.system.proofs.Woken.{Within, within-part, handed-out, handed-few, handed-read, handed-count, call-readies}
+use Rattle.system.proofs.Fates.{Unparked, Fated, stays-fated, fated-part, caller-fate}
 use Rattle.system.proofs.Link.{tells, gives, leaves, in-none, in-word, read-all}
-
--- nobody is to wait
-abbrev pub Unparked : {N W : Type 0} → Verdict N W → Type 0
-Unparked (deny r) = Unit {0}
-Unparked (allow n keep r) = Unit {0}
-Unparked (allow n (park x) r) = ⊥
-Unparked (allow n (wake p f) r) = Unit {0}
-
-pub unparked : {N W : Type 0} (b : Bool) (d e : Verdict N W) → Unparked d → Unparked e → Unparked (cond b d e)
-unparked true d e x y = x
-unparked false d e x y = y
 
 carried-named : {N W : Type 0} (i p st j : ℕ) (d : Verdict N W) (n : N) (q : List ℕ) → Unparked d → carried (thread i p st) d n q ≡ carried (named j) d n q
 carried-named i p st j (deny r) n q x = refl
@@ -78,7 +66,7 @@ module _ {A K : Kind} (law : Lawful K) (P : Part A K) (fits : Fits P) (L : Layou
     at-most : length (called s i o (P .call k) .2) ≤ m (length q)
     at-most = handed-few s g i o (P .call k) (P .num n) (is .slot) m c whole
 
-    module _ (f : A .Num → List ℕ → Out (A .Num)) (same : Same f) (d : Did L f u) where
+    module _ (a : Bool) (fates : Fated a (A .decide n v (map ident q) i k)) (f : A .Num → List ℕ → Out (A .Num)) (same : Same f) (d : Did L f u) where
       abbrev h : List ℕ
       h = u .before .header
 
@@ -88,7 +76,7 @@ module _ {A K : Kind} (law : Lawful K) (P : Part A K) (fits : Fits P) (L : Layou
       words : given L f u ≡ map word (called s i o (P .call k) .2)
       words = gives law L (P .num) s g i o (P .call k) f h e is same m c whole
 
-      stepped : (Listed (map word (called s i o (P .call k) .2)) (u .lent) (u .filled)) → Steps L (P .num) s i o (P .call k) c u
+      stepped : (Listed (map word (called s i o (P .call k) .2)) (u .lent) (u .filled)) → Steps L (P .num) s i o (P .call k) a c u
       stepped x =
           let code : u .answer ≡ called s i o (P .call k) .1 = d .code ∙ sym (tells law L (P .num) s g i o (P .call k) f h e is same) in
           record {
@@ -100,17 +88,21 @@ module _ {A K : Kind} (law : Lawful K) (P : Part A K) (fits : Fits P) (L : Layou
                 (read-all (called s i o (P .call k) .2) (heard c (u .answer)) (u .lent) (u .filled) x
                 (handed-count s g i o (P .call k) (P .num n) (is .slot) m c whole ∙ ap (heard c) (sym code)))
                 ∙ handed-read s g i o (P .call k) (P .num n) (is .slot) m c whole;
+            caller =
+                caller-fate s g i o (P .call k) (P .num n) (is .slot) a
+                (subst (λ (d : Verdict (K .Num) (K .Wish)). Fated a d) (sym (fits .decides n (s .wish) (map ident q) i k)) (fated-part (P .num) (P .wish) a (A .decide n v (map ident q) i k) fates))
+                ∙ ap (λ (z : ℤ). fate a o z (s .state i)) (sym code);
             readies = call-readies s g i o (P .call k) (P .num n) (is .slot);
           }
 
-      pub silent : m (length q) ≤ 0 → u .lent ≡ [] → u .filled ≡ [] → Steps L (P .num) s i o (P .call k) c u
+      pub silent : m (length q) ≤ 0 → u .lent ≡ [] → u .filled ≡ [] → Steps L (P .num) s i o (P .call k) a c u
       silent z a b = stepped (in-none (called s i o (P .call k) .2) (u .lent) (u .filled) a b (omega (arith, at-most, z)))
 
-      pub in-a-word : m (length q) ≤ 1 → (w w' : ℕ) → u .lent ≡ w ∷ [] → u .filled ≡ w' ∷ [] → Told (given L f u) w w' → Steps L (P .num) s i o (P .call k) c u
+      pub in-a-word : m (length q) ≤ 1 → (w w' : ℕ) → u .lent ≡ w ∷ [] → u .filled ≡ w' ∷ [] → Told (given L f u) w w' → Steps L (P .num) s i o (P .call k) a c u
       in-a-word z w w' a b t =
           stepped (in-word (called s i o (P .call k) .2) w w' (u .lent) (u .filled) a b (omega (arith, at-most, z)) (subst (λ (y : List ℕ). Told y w w') words t))
 
-      pub in-a-slice : Listed (given L f u) (u .lent) (u .filled) → Steps L (P .num) s i o (P .call k) c u
+      pub in-a-slice : Listed (given L f u) (u .lent) (u .filled) → Steps L (P .num) s i o (P .call k) a c u
       in-a-slice x = stepped (subst (λ (y : List ℕ). Listed y (u .lent) (u .filled)) words x)
 
     -- the function is told the thread's numbers
@@ -119,22 +111,25 @@ module _ {A K : Kind} (law : Lawful K) (P : Part A K) (fits : Fits P) (L : Layou
         call-part P fits (s .wish) (thread i (s .prio i) (number (s .state i))) k n q
         ∙ ap (λ (w : object.Caller). wrapped (P .num) (call A v w k n q)) (let x : thread i (s .prio i) (number (s .state i)) ≡ thread (u .id) (u .priority) (u .state) = cc in x)
 
-    pub by-thread : Truthful s i u → m (length q) ≤ 0 → Silent L (call A v (thread (u .id) (u .priority) (u .state)) k) u → Steps L (P .num) s i o (P .call k) c u
-    by-thread t z x = silent _ (as-thread t) (x .does) z (x .lent) (x .filled)
+    pub by-thread : Fated true (A .decide n v (map ident q) i k) → Truthful s i u → m (length q) ≤ 0 → Silent L (call A v (thread (u .id) (u .priority) (u .state)) k) u → Steps L (P .num) s i o (P .call k) true c u
+    by-thread y t z x = silent true y _ (as-thread t) (x .does) z (x .lent) (x .filled)
 
     -- it is told a name at most, and a thread that runs calls it
     module _ (j : ℕ) (run : s .state i ≡ running) (same : A .decide n v (map ident q) i k ≡ A .decide n v (map ident q) j k)
         (stays : Unparked (A .decide n v (map ident q) j k)) where
+      fates : Fated false (A .decide n v (map ident q) i k)
+      fates = subst (λ (d : Verdict (A .Num) (A .Wish)). Fated false d) (sym same) (stays-fated (A .decide n v (map ident q) j k) stays)
+
       as-named : Same (call A v (named j) k)
       as-named =
           rw run
           (call-part P fits (s .wish) (thread i (s .prio i) 1) k n q ∙ ap (wrapped (P .num)) (call-named A v i (s .prio i) j k n q (runs-valid s g i run) same stays))
 
-      pub by-name : m (length q) ≤ 0 → Silent L (call A v (named j) k) u → Steps L (P .num) s i o (P .call k) c u
-      by-name z x = silent _ as-named (x .does) z (x .lent) (x .filled)
+      pub by-name : m (length q) ≤ 0 → Silent L (call A v (named j) k) u → Steps L (P .num) s i o (P .call k) false c u
+      by-name z x = silent false fates _ as-named (x .does) z (x .lent) (x .filled)
 
-      pub by-word : m (length q) ≤ 1 → InWord L (call A v (named j) k) u → Steps L (P .num) s i o (P .call k) c u
-      by-word z x = in-a-word _ as-named (x .does) z (x .who) (x .who') (x .lent) (x .filled) (x .told)
+      pub by-word : m (length q) ≤ 1 → InWord L (call A v (named j) k) u → Steps L (P .num) s i o (P .call k) false c u
+      by-word z x = in-a-word false fates _ as-named (x .does) z (x .who) (x .who') (x .lent) (x .filled) (x .told)
 
       -- there is room for all that are woken
       as-handed : m (length q) ≤ length (u .lent) → Same (handed (length (u .lent)) (call A v (named j) k))
@@ -145,22 +140,5 @@ module _ {A K : Kind} (law : Lawful K) (P : Part A K) (fits : Fits P) (L : Layou
           omega (arith, l, at-most, ap length (sym e ∙ w), length-map (called s i o (P .call k) .2) word) in
           as-named ∙ ap (wrapped (P .num)) (rw (le-leb (length (call A v (named j) k n q .turn .woken)) (length (u .lent)) c) refl)
 
-      pub by-slice : m (length q) ≤ length (u .lent) → InSlice L (λ room. handed room (call A v (named j) k)) u → Steps L (P .num) s i o (P .call k) c u
-      by-slice l x = in-a-slice _ (as-handed l) (x .does) (x .listed)
-
--- a thread that runs, and need not wait, still runs
-module _ {K : Kind} (s : Sys K) (g : Fine s) (i o : ℕ) (k : K .Call) (run : s .state i ≡ running) where
-  states-same : (d : Verdict (K .Num) (K .Wish)) → Unparked d → states (deed d) i o (s .queue o) (s .state) i ≡ s .state i
-  states-same (deny r) x = refl
-  states-same (allow n keep r) x = refl
-  states-same (allow n (park y) r) x = absurd x
-  states-same (allow n (wake p f) r) x =
-      let z : times i (s .queue o) ≡ 0 = g .placed o i ∙ rw run refl in
-      rw (not-held i (gone ident p (s .queue o)) (omega (arith, z, times-pick i p (s .queue o))))
-
-  pub still : (n : K .Num) → s .slot o ≡ system.object n → Unparked (verdict s i o k n) → called s i o k .0 .state i ≡ s .state i
-  still n h x = rw h (by (outcome s i o k n .turn .code))
-    where
-      by : (z : ℤ) → unless z s (serve s i o (verdict s i o k n) (outcome s i o k n)) .state i ≡ s .state i
-      by (pos c) = states-same (verdict s i o k n) x
-      by (negsuc c) = refl
+      pub by-slice : m (length q) ≤ length (u .lent) → InSlice L (λ room. handed room (call A v (named j) k)) u → Steps L (P .num) s i o (P .call k) false c u
+      by-slice l x = in-a-slice false fates _ (as-handed l) (x .does) (x .listed)

@@ -12,7 +12,8 @@ use Rattle.seq.specs.Word.{word}
 use Rattle.seq.specs.List.{any}
 use Rattle.thread.specs.Code.{ok, eagain, ebusy}
 use Rattle.wait_queue.specs.Queue.{ident}
-use Rattle.kind.specs.Verdict.{Verdict, deny}
+use Rattle.wait_queue.specs.Turn.{waits}
+use Rattle.kind.specs.Verdict.{park, Verdict, deny, allow}
 use Rattle.kind.specs.Kind.{Kind, Lawful, plain}
 use Rattle.sem.specs.Sem as sem
 use Rattle.sem.specs.Sem.{Sem, sem-kind}
@@ -31,7 +32,8 @@ use Rattle.system.specs.Functions.{nobody, single, everyone, onlyAt, Sem
 use Rattle.system.specs.Link.{signed, Links}
 use Rattle.system.proofs.Sheets.{Fits}
 use Rattle.system.proofs.Woken.{Within, within}
-use Rattle.system.proofs.Callers.{Unparked, unparked, by-thread, by-name, by-word, by-slice}
+use Rattle.system.proofs.Fates.{Unparked, unparked, Fated, fated}
+use Rattle.system.proofs.Callers.{by-thread, by-name, by-word, by-slice}
 
 -- none of these calls makes the caller wait
 passes-unparked : (q : List ℕ) → Unparked (passes q)
@@ -50,6 +52,10 @@ locks-within : (n : Mutex) (w : ℕ) (q : List ℕ) (d : Verdict Mutex (Unit {0}
 locks-within n w q d x =
     within nobody nobody q (held (n .owner)) _ _
     (within nobody nobody q (owns w (n .owner)) _ _ (within nobody nobody q (ltb (n .count) maxCount) _ _ refl refl) x) refl
+
+locks-fated : (n : Mutex) (w : ℕ) → Fated true (locks n w (allow n (park tt) waits))
+locks-fated n w =
+    fated true (held (n .owner)) _ _ (fated true (owns w (n .owner)) _ _ (fated true (ltb (n .count) maxCount) _ _ (λ o x. refl) (λ o x. refl)) refl) (λ o x. refl)
 
 passes-within : (q : List ℕ) → Within single (onlyAt 2) q (passes (map ident q))
 passes-within [] = refl
@@ -91,8 +97,8 @@ module _ {K : Kind} (law : Lawful K) where
       (c .runs refl) refl (unparked (ltb 0 (n .count)) _ _ tt tt) (omega arith) d
   sem-links P fits takeBlocking s g i o u is c d =
       let n = semaphore.layout .num (u .before .header) in
-      by-thread law P fits semaphore.layout sem.take nobody nobody s g i o u is (within nobody nobody (s .queue o) (ltb 0 (n .count)) _ _ refl refl) (c .told)
-      (omega arith) d
+      by-thread law P fits semaphore.layout sem.take nobody nobody s g i o u is (within nobody nobody (s .queue o) (ltb 0 (n .count)) _ _ refl refl)
+      (fated true (ltb 0 (n .count)) _ _ (λ o x. refl) refl) (c .told) (omega arith) d
   sem-links P fits reset s g i o u is c d =
       by-slice law P fits semaphore.layout sem.reset everyone everyone s g i o u is (all-within (s .queue o) eagain refl) 0 (c .runs refl) refl tt (c .room) d
 
@@ -102,8 +108,8 @@ module _ {K : Kind} (law : Lawful K) where
       by-name law P fits lock.layout mutex.tryLock nobody nobody s g i o u is (locks-within n i (s .queue o) (deny ebusy) refl) (u .id) (c .runs refl)
       (ap (λ (j : ℕ). locks (lock.layout .num (u .before .header)) j (deny ebusy)) (sym (c .told .id))) (locks-unparked n (u .id) (deny ebusy) tt) (omega arith) d
   mutex-links P fits lockBlocking s g i o u is c d =
-      by-thread law P fits lock.layout mutex.lock nobody nobody s g i o u is (locks-within (lock.layout .num (u .before .header)) i (s .queue o) _ refl) (c .told)
-      (omega arith) d
+      by-thread law P fits lock.layout mutex.lock nobody nobody s g i o u is (locks-within (lock.layout .num (u .before .header)) i (s .queue o) _ refl)
+      (locks-fated (lock.layout .num (u .before .header)) i) (c .told) (omega arith) d
   mutex-links P fits unlock s g i o u is c d =
       by-word law P fits lock.layout mutex.unlock single (onlyAt 2) s g i o u is (unlocks-within (lock.layout .num (u .before .header)) i (s .queue o) _ refl)
       (u .id) (c .runs refl)
@@ -120,7 +126,8 @@ module _ {K : Kind} (law : Lawful K) where
   pub futex-links : (P : Part futex-kind K) → Fits P → (f : FutexFn) → Links P value.layout (futexFn f)
   futex-links P fits (wait x) s g i o u is c d =
       by-thread law P fits value.layout (futex.wait x) nobody nobody s g i o u is
-      (within nobody nobody (s .queue o) (eqb (value.layout .num (u .before .header) .val) x) _ _ refl refl) (c .told) (omega arith) d
+      (within nobody nobody (s .queue o) (eqb (value.layout .num (u .before .header) .val) x) _ _ refl refl)
+      (fated true (eqb (value.layout .num (u .before .header) .val) x) _ _ refl (λ o x. refl)) (c .told) (omega arith) d
   futex-links P fits (wake true) s g i o u is c d =
       by-slice law P fits value.layout futex.wakeAll (wakeRoom true) everyone s g i o u is (all-within (s .queue o) ok refl) 0 (c .runs refl) refl tt (c .room) d
   futex-links P fits (wake false) s g i o u is c d =

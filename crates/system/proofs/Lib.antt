@@ -26,6 +26,7 @@ pub mod Theorems
 pub mod Parts
 pub mod Woken
 pub mod Link
+pub mod Fates
 pub mod Callers
 pub mod Functions
 pub mod Inits

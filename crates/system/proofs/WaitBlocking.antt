@@ -22,10 +22,10 @@ use Rattle.system.specs.Part.{Part}
 use Rattle.system.specs.System.{ready, number, Sys, reply, called, answers}
 use Rattle.system.specs.Rules.{Fine}
 use Rattle.system.specs.Functions.{Memory, Use, heard, onlyAt, WaitedWith, waitBlocking}
-use Rattle.system.specs.Link.{Is, read, Handed, Truthful, Pairs, LinksBoth}
+use Rattle.system.specs.Link.{Is, read, Handed, settle, Truthful, Pairs, LinksBoth}
 use Rattle.system.proofs.Sheets.{Fits}
 use Rattle.system.proofs.Link.{read-all}
-use Rattle.system.proofs.Waiting.{both-tell, first-is, second-is, hands, count, reads-both, ready-both}
+use Rattle.system.proofs.Waiting.{both-tell, first-is, second-is, hands, count, reads-both, ready-both, last}
 
 module _ {K : Kind} (law : Lawful K) (P : Part mutex-kind K) (fits : Fits P) (C : Part condvar-kind K) (fitting : Fits C)
     (s : Sys K) (g : Fine s) (i a b : ℕ) (off : a ≡ b → ⊥) (u : Use) (c c' : Memory) (x : Is lock.layout (P .num) s a (u .before .header) (u .before .entries))
@@ -69,6 +69,7 @@ module _ {K : Kind} (law : Lawful K) (P : Part mutex-kind K) (fits : Fits P) (C 
         handed = rw (ne-eqb a b off, l) (d .filled ∙ ap (λ (v : ℕ). v ∷ []) (kept n z .3) ∙ sym (d .lent));
         reads = rw (ne-eqb a b off, l) (ap (λ (r : ℤ). map read (take (heard (onlyAt 2) r) (u .filled))) z);
         readies = rw (ne-eqb a b off, l) (record { ready = tt; others = λ v w o. refl });
+        caller = rw (ne-eqb a b off, l) (ap (λ (r : ℤ). settle b r (s .state i)) (sym z));
       }
     where
       moved : {N : Type 0} {L : Layout N} {num : N → K .Num} {o : ℕ} {m d m' d' : List ℕ} → Is L num s o m d → m' ≡ m → d' ≡ d → Is L num s o m' d'
@@ -118,6 +119,9 @@ module _ {K : Kind} (law : Lawful K) (P : Part mutex-kind K) (fits : Fits P) (C 
                 (read-all (called s i a j .2 ++ called (called s i a j .0) i b k .2) (heard (onlyAt 2) (u .answer)) (u .lent) (u .filled) hand
                 (count law P fits C fitting s g i a b off h e q l x y n told v f (u .answer) q' l' m (does .1) (does .0) ∙ ap (heard (onlyAt 2)) (sym (does .1 .code))))
                 ∙ reads-both law P fits C fitting s g i a b off h e q l x y n told v f (u .answer) q' l' m (does .1) (does .0));
+            caller =
+                rw (ne-eqb a b off, told)
+                (last law P fits C fitting s g i a b off h e q l x y n told v f (u .answer) q' l' m (does .1) (does .0) ∙ ap (λ (r : ℤ). settle b r (s .state i)) (sym z));
             readies = rw (ne-eqb a b off, told) (ready-both law P fits C fitting s g i a b off h e q l x y n told v f (u .answer) q' l' m (does .1) (does .0));
           }
 

@@ -1,4 +1,5 @@
 -- A mutex is given back and a condition variable waited at, both or neither, in any system that has both. Assumes nothing.
+use mathlib.Core.Bool.{true}
 use mathlib.Core.Path.{_≡_, refl, sym, ap, subst, _∙_}
 use mathlib.Core.List.{List, [], _∷_, _++_, map, append-nil}
 use Prim.Native.Nat.{ℕ, _≤_}
@@ -24,16 +25,16 @@ use Rattle.condvar.specs.Post as condition
 use Rattle.condvar.specs.Post.{agreed}
 use Rattle.system.specs.Part.{Part}
 use Rattle.system.specs.Sum.{mapped}
-use Rattle.system.specs.System.{State, running, ready, number, Sys, Woken, outcome, verdict, called, answers}
+use Rattle.system.specs.System.{State, running, waiting, ready, number, Sys, Woken, outcome, verdict, called, answers}
 use Rattle.system.specs.Rules.{Fine}
 use Rattle.system.specs.Functions.{heard, nobody, single, onlyAt}
-use Rattle.system.specs.Link.{Is, read, word, Handed, Readies}
+use Rattle.system.specs.Link.{Is, read, word, fate, Handed, Readies}
 use Rattle.system.proofs.Calls.{runs, barred, called-fine}
 use Rattle.system.proofs.Sheets.{Fits}
 use Rattle.system.proofs.Parts.{wrapped, call-part}
 use Rattle.system.proofs.Woken.{Within, within-part, handed-few, handed-read, handed-count, call-readies}
 use Rattle.system.proofs.Link.{tells, gives, leaves, in-word, prio-kept, slot-kept, queue-kept, is-kept}
-use Rattle.system.proofs.Callers.{Unparked, still}
+use Rattle.system.proofs.Fates.{Unparked, Fated, caller-fate, still}
 use Rattle.system.proofs.Functions.{unlocks-unparked, unlocks-within}
 
 unparked-part : {M N X Y : Type 0} (f : M → N) (g : X → Y) (d : Verdict M X) → Unparked d → Unparked (mapped f g d)
@@ -133,6 +134,9 @@ module _ {K : Kind} (law : Lawful K) (P : Part mutex-kind K) (fits : Fits P) (C 
   second-within : Within nobody nobody (mid .queue b) (verdict mid i b await (C .num tt))
   second-within = rw (fitting .decides tt (mid .wish) (map ident (mid .queue b)) i condvar.wait) refl
 
+  second-fated : Fated true (verdict mid i b await (C .num tt))
+  second-fated = rw (fitting .decides tt (mid .wish) (map ident (mid .queue b)) i condvar.wait) refl
+
   second-none : length (called mid i b await .2) ≤ 0
   second-none = handed-few mid fine-mid i b await (C .num tt) (y-mid .slot) nobody nobody second-within
 
@@ -200,3 +204,9 @@ module _ {K : Kind} (law : Lawful K) (P : Part mutex-kind K) (fits : Fits P) (C 
     pub reads-both : map read (map word (called s i a release .2 ++ called mid i b await .2)) ≡ called s i a release .2 ++ called mid i b await .2
     reads-both =
         read-on (called s i a release .2) (called mid i b await .2) second-none (handed-read s g i a release (P .num n) (x .slot) single (onlyAt 2) first-within)
+
+    -- the caller waits
+    pub last : end .state i ≡ waiting b
+    last =
+        caller-fate mid fine-mid i b await (C .num tt) (y-mid .slot) true second-fated
+        ∙ ap (λ (r : ℤ). fate true b r (mid .state i)) (second-tells k z ∙ sym (two .code))
