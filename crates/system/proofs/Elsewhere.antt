@@ -10,8 +10,8 @@ use borrow.Author.Tests.{ne-eqb}
 use Rattle.thread.specs.Code.{ok, einval}
 use Rattle.thread.specs.Priority.{valid}
 use Rattle.kind.specs.Kind.{Kind}
-use Rattle.system.specs.System.{State, absent, running, ready, waiting, vacant, object, Sys, Op, invoke, both, dispatch, yield, expire, spawn, create, Reply, denied, accept, refuse, unless, gone-by, called, dispatched, yielded, left, spawned, born, placed, created, answers, step}
-use Rattle.system.specs.World.{OfThreads}
+use Rattle.system.specs.System.{State, absent, running, ready, waiting, vacant, object, Sys, Op, invoke, both, dispatch, yield, expire, spawn, create, Reply, denied, accept, refuse, unless, free, gone-by, called, dispatched, yielded, left, spawned, born, placed, created, answers, step}
+use Rattle.system.specs.World.{OfThreads, actor}
 use Rattle.system.proofs.Link.{slot-kept, queue-kept}
 
 -- the object x is in t as it is in s
@@ -94,3 +94,43 @@ module _ {K : Kind} (s : Sys K) (x : ℕ) where
   moves-kept (expire i) z = absurd z
   moves-kept (spawn i p) z = spawn-kept i p
   moves-kept (create o n) z = absurd z
+
+-- whose state an operation of the kernel alone can change
+module _ {K : Kind} (s : Sys K) (t : ℕ) where
+  dispatch-others : (i : ℕ) (y : State) → (i ≡ t → ⊥) → dispatched y s i .0 .state t ≡ s .state t
+  dispatch-others i absent n = refl
+  dispatch-others i running n = refl
+  dispatch-others i (ready r) n = rw (ne-eqb i t n)
+  dispatch-others i (waiting o) n = refl
+
+  yield-others : (i : ℕ) (y : State) → (i ≡ t → ⊥) → yielded y s i .0 .state t ≡ s .state t
+  yield-others i absent n = refl
+  yield-others i running n = rw (ne-eqb i t n)
+  yield-others i (ready r) n = refl
+  yield-others i (waiting o) n = refl
+
+  spawn-others : (i p : ℕ) → (i ≡ t → ⊥) → spawned s i p .0 .state t ≡ s .state t
+  spawn-others i p n = go (gone-by (s .state i)) (ltb i 4294967296) (valid p)
+    where
+      go : (a b c : Bool) → cond {A = Reply K} a (cond b (cond c (accept (born s i p) ok) (refuse s einval)) (refuse s einval)) (refuse s einval) .0 .state t ≡ s .state t
+      go true true true = rw (ne-eqb i t n)
+      go true true false = refl
+      go true false c = refl
+      go false b c = refl
+
+  pub moves-others : (y : Op K) → OfThreads y → (actor y ≡ t → ⊥) → step s y .0 .state t ≡ s .state t
+  moves-others (invoke i o k) z n = absurd z
+  moves-others (both i a j b k) z n = absurd z
+  moves-others (dispatch i) z n = dispatch-others i (s .state i) n
+  moves-others (yield i) z n = yield-others i (s .state i) n
+  moves-others (expire i) z n = absurd z
+  moves-others (spawn i p) z n = spawn-others i p n
+  moves-others (create o m) z n = absurd z
+
+  pub create-states : (o : ℕ) (m : K .Num) → created s o m .0 .state t ≡ s .state t
+  create-states o m = go (free (s .slot o)) (K .new m)
+    where
+      go : (a b : Bool) → cond {A = Reply K} a (cond b (accept (placed s o m) ok) (refuse s einval)) (refuse s einval) .0 .state t ≡ s .state t
+      go true true = refl
+      go true false = refl
+      go false b = refl

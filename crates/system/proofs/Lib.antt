@@ -33,6 +33,7 @@ pub mod Inits
 pub mod Waiting
 pub mod WaitBlocking
 pub mod Elsewhere
+pub mod Tables
 pub mod Worlds
 pub mod Library
 pub mod WorldExample

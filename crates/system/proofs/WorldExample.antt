@@ -1,4 +1,5 @@
 -- A history of the code in memory, computed: a semaphore is made, thread 7 takes and waits, thread 1 gives and is told 7. Assumes nothing.
+use mathlib.Core.Bool.{true, false}
 use mathlib.Core.Path.{_≡_, refl}
 use mathlib.Core.Logic.{inl}
 use mathlib.Core.List.{List, [], _∷_}
@@ -9,9 +10,10 @@ use borrow.Author.Tests.{ne-eqb}
 use Rattle.thread.specs.Code.{ok}
 use Rattle.wait_queue.specs.Queue.{maxWaiters, entry}
 use Rattle.sem.specs.Sem as sem
-use Rattle.system.specs.System.{absent, vacant, Sys, invoke, dispatch, spawn, create, done, upd}
+use Rattle.system.specs.System.{absent, running, ready, vacant, Sys, invoke, dispatch, spawn, create, done, upd}
 use Rattle.system.specs.Rtos.{rtos, aSem, semCall}
 use Rattle.system.specs.Functions.{Memory, Use, nobody, onlyAt, give, takeBlocking}
+use Rattle.system.specs.Link.{fate}
 use Rattle.system.specs.World.{World, Event, seen, quiet, Elsewhere, calls, inits, moves, Ran, begun, then, Follows}
 use Rattle.system.specs.Library.{stock, aSemaphore, library}
 use Rattle.system.proofs.Steps.{always}
@@ -60,13 +62,13 @@ same w x a = refl
 -- the newest in front
 abbrev events : List (Event rtos)
 events =
-    seen (invoke 1 0 (semCall sem.give)) (onlyAt 0) gives (0 ∷ [])
-    ∷ seen (invoke 7 0 (semCall sem.take)) nobody takes (0 ∷ [])
-    ∷ quiet (create 0 (aSem (record { count = 0; limit = 2 }))) (done ok) (0 ∷ [])
-    ∷ quiet (dispatch 7) (done ok) []
-    ∷ quiet (dispatch 1) (done ok) []
-    ∷ quiet (spawn 7 5) (done ok) []
-    ∷ quiet (spawn 1 0) (done ok) []
+    seen (invoke 1 0 (semCall sem.give)) (onlyAt 0) gives (0 ∷ []) 1 (fate false 0 (pos 0))
+    ∷ seen (invoke 7 0 (semCall sem.take)) nobody takes (0 ∷ []) 7 (fate true 0 (pos 1))
+    ∷ quiet (create 0 (aSem (record { count = 0; limit = 2 }))) (done ok) (0 ∷ []) 0 (λ x. x)
+    ∷ quiet (dispatch 7) (done ok) [] 7 (λ x. running)
+    ∷ quiet (dispatch 1) (done ok) [] 1 (λ x. running)
+    ∷ quiet (spawn 7 5) (done ok) [] 7 (λ x. ready ok)
+    ∷ quiet (spawn 1 0) (done ok) [] 1 (λ x. ready ok)
     ∷ []
 
 pub ran : Ran library sort bare empty events given

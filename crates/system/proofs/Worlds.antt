@@ -7,20 +7,21 @@ use native.Mathlib.Omega.{arith}
 use lib.Dec.{eqb}
 use lib.IntN.{ℤ, pos, negsuc}
 use lib.ListN.{set}
-use borrow.Author.Tests.{eqb-true, eqb-false}
-use Rattle.thread.specs.Code.{ok}
+use borrow.Author.Tests.{eq-eqb, ne-eqb, eqb-true, eqb-false}
+use Rattle.thread.specs.Code.{ok, eagain}
 use Rattle.kind.specs.Kind.{Kind, Lawful}
 use Rattle.condvar.specs.Post.{Allowed}
-use Rattle.system.specs.System.{State, object, Sys, Woken, Reply, expired, both, expire, create, left, created, done, reply, step, after, called}
+use Rattle.system.specs.System.{State, ready, object, Sys, Woken, Reply, expired, both, expire, create, left, created, done, reply, step, after, called}
 use Rattle.system.specs.Rules.{Fine}
 use Rattle.system.specs.Functions.{Memory}
-use Rattle.system.specs.Link.{Is, read, Handed, Links, LinksBoth, Turns}
-use Rattle.system.specs.World.{Library, World, Event, quiet, ops, Agrees, Elsewhere, Holds, Shows, Happens, calls, pairs, inits, removes, moves, begun, then, Histories}
+use Rattle.system.specs.Link.{Is, read, Handed, Readies, Links, LinksBoth, Turns}
+use Rattle.system.specs.World.{Library, World, Event, quiet, actor, Noted, opened, noted, ops, Agrees, Elsewhere, Holds, Shows, Happens, calls, pairs, inits, removes, moves, begun, then, Histories}
 use Rattle.system.proofs.Steps.{step-fine}
 use Rattle.system.proofs.Sheets.{Fits}
 use Rattle.system.proofs.Link.{is-kept}
 use Rattle.system.proofs.Inits.{makes, expires}
-use Rattle.system.proofs.Elsewhere.{Kept, call-kept, both-kept, left-kept, create-kept, create-silent, create-denied, moves-kept}
+use Rattle.system.proofs.Elsewhere.{Kept, call-kept, both-kept, left-kept, create-kept, create-silent, create-denied, create-states, moves-kept, moves-others}
+use Rattle.system.proofs.Tables.{table}
 
 -- what is proved of each function, and of where each object stands in its header
 pub record Linked {K : Kind} (C : Library K) : Type 0 where
@@ -61,8 +62,12 @@ module _ {K : Kind} (C : Library K) (linked : Linked C) (sort : ℕ → C .Sort)
         go false true e f = subst (λ (y : ℕ). There t y) (eqb-true b x f) there
         go false false e f = stays t x (kept x (eqb-false a x e) (eqb-false b x f)) (off x (eqb-false a x e, (eqb-false b x f, tt)))
 
+    -- what becomes of the threads
+    abbrev Settles : Event K → Type 0
+    Settles e = Readies s (e .by) (step s (e .op) .2) (step s (e .op) .0) × (step s (e .op) .0 .state (e .by) ≡ e .becomes (s .state (e .by)))
+
     abbrev Stepped : Event K → Type 0
-    Stepped e = Shows C sort (step s (e .op) .0) w' × Agrees e (step s (e .op))
+    Stepped e = Shows C sort (step s (e .op) .0) w' × Agrees e (step s (e .op)) × Settles e
 
     -- nobody is woken, and no place was lent
     silent : (e : Event K) (y : Reply K) → e .answer ≡ y .1 → y .2 ≡ [] → e .filled ≡ e .lent → e .told ≡ [] → Agrees e y
@@ -73,6 +78,9 @@ module _ {K : Kind} (C : Library K) (linked : Linked C) (sort : ℕ → C .Sort)
           reads = ap (map read) t ∙ sym z;
         }
 
+    unroused : (t : Sys K) (i : ℕ) {l : List Woken} → l ≡ [] → ((x : ℕ) → (i ≡ x → ⊥) → t .state x ≡ s .state x) → Readies s i l t
+    unroused t i e f = rw e (record { ready = tt; others = λ x a n. f x n })
+
     happened : (e : Event K) → Happens C sort s w w' e → Elsewhere (e .on) w w' → Stepped e
     happened e (calls i o n f u there before after c d) off =
         let F = C .class (sort o) .code .function f in
@@ -80,6 +88,7 @@ module _ {K : Kind} (C : Library K) (linked : Linked C) (sort : ℕ → C .Sort)
         let x = linked .links (sort o) f s g i o u (subst (λ (m : Memory). Holds C sort s o m) (sym before) (shows o n there)) c d in (
           one-touched (called s i o k .0) o (λ m z. subst (λ (y : Memory). Holds C sort (called s i o k .0) o y) (sym after) (x .is)) (λ y z. call-kept s y i o k z) off,
           record { answer = ap reply (x .code); handed = x .handed; reads = x .reads },
+          (x .readies, x .caller),
         )
     happened e (pairs i a b m n t u sa sb apart ta tb before after c d) off =
         let j = C .class (C .first t) .part .call (C .double t .first) in
@@ -95,13 +104,15 @@ module _ {K : Kind} (C : Library K) (linked : Linked C) (sort : ℕ → C .Sort)
               (λ l z. subst (λ (y : C .Sort). Is (C .class y .code .layout) (C .class y .part .num) (step s (both i a j b k) .0) b (w' b .header) (w' b .entries)) (sym sb) (x .second))
               (λ y p q. both-kept s y i a j b k apart p q) off,
           record { answer = x .code; handed = x .handed; reads = x .reads },
+          (x .readies, x .caller),
         )
     happened e (inits o n r v told words room d entries) off =
         let P = C .class (sort o) .part in
         let x =
         makes P (linked .fits (sort o)) (C .class (sort o) .code .layout) s g o n (w o .header) (w o .entries) r (w' o .header) v words room (linked .told (sort o) n told) d in (
           one-touched (created s o (P .num n) .0) o (here r x) (λ y z. create-kept s y o (P .num n) v z) off,
-          silent (quiet (create o (P .num n)) (reply r) (o ∷ [])) (step s (create o (P .num n))) (x .code) (create-silent s o o (P .num n) v) refl refl,
+          silent (quiet (create o (P .num n)) (reply r) (o ∷ []) 0 (λ x. x)) (step s (create o (P .num n))) (x .code) (create-silent s o o (P .num n) v) refl refl,
+          (unroused (created s o (P .num n) .0) 0 (create-silent s o o (P .num n) v) (λ t z. create-states s t o (P .num n)), create-states s 0 o (P .num n)),
         )
       where
         here : (r : ℤ) → Turns (C .class (sort o) .code .layout) (C .class (sort o) .part .num) s o (create o (C .class (sort o) .part .num n)) r (w' o .header) (w o .entries)
@@ -119,7 +130,10 @@ module _ {K : Kind} (C : Library K) (linked : Linked C) (sort : ℕ → C .Sort)
         let m : Allowed r (Is L num (left s i o) o (set (w o .header) (L .len) k) (w' o .entries)) =
         subst (λ (y : State). Allowed r (Is L num (expired y s i .0) o (set (w o .header) (L .len) k) (w' o .entries))) state (x .is) in (
           subst (λ (y : State). Shows C sort (expired y s i .0) w') (sym state) (one-touched (left s i o) o (here r c m) (λ y z. left-kept s y i o z) off),
-          silent (quiet (expire i) (reply r) (o ∷ [])) (step s (expire i)) (x .code) (rw state refl) refl refl,
+          silent (quiet (expire i) (reply r) (o ∷ []) i (λ x. ready eagain)) (step s (expire i)) (x .code) (rw state refl) refl refl,
+          subst
+              (λ (y : State). Readies s i (expired y s i .2) (expired y s i .0) × (expired y s i .0 .state i ≡ ready eagain)) (sym state)
+              (record { ready = tt; others = λ t a n. rw (ne-eqb i t n) }, rw (eq-eqb i i refl)),
         )
       where
         here : (r : ℤ) → reply r ≡ done ok
@@ -130,7 +144,8 @@ module _ {K : Kind} (C : Library K) (linked : Linked C) (sort : ℕ → C .Sort)
         here (negsuc c) e y m z = absurd (let l : _≡_ {A = ℕ} 0 1 = cc in omega arith)
     happened e (moves x z) off = (
       λ y. stays (step s x .0) y (moves-kept s y x z .0) (off y tt),
-      silent (quiet x (step s x .1) []) (step s x) refl (moves-kept s 0 x z .1) refl refl,
+      silent (quiet x (step s x .1) [] (actor x) (λ y. step s x .0 .state (actor x))) (step s x) refl (moves-kept s 0 x z .1) refl refl,
+      (unroused (step s x .0) (actor x) (moves-kept s 0 x z .1) (λ t n. moves-others s t x z n), refl),
     )
 
   -- any number of them
@@ -138,9 +153,22 @@ module _ {K : Kind} (C : Library K) (linked : Linked C) (sort : ℕ → C .Sort)
   after-fine s g [] = g
   after-fine s g (e ∷ es) = step-fine (linked .lawful) (after s (ops es)) (e .op) (after-fine s g es)
 
+  empty-table : (s : Sys K) (T T' : ℕ → State) → ((t : ℕ) → T t ≡ s .state t) → Noted {K = K} T [] T' → (t : ℕ) → T' t ≡ s .state t
+  empty-table s T T' same opened = same
+
+  more : (s : Sys K) (e : Event K) (es : List (Event K)) → Agrees e (step s (e .op))
+      → Readies s (e .by) (step s (e .op) .2) (step s (e .op) .0) × (step s (e .op) .0 .state (e .by) ≡ e .becomes (s .state (e .by)))
+      → (T T' : ℕ → State) → ((U : ℕ → State) → Noted T es U → (t : ℕ) → U t ≡ s .state t) → Noted T (e ∷ es) T' → (t : ℕ) → T' t ≡ step s (e .op) .0 .state t
+  more s e es a b T T' past (noted {U = U} k n) = table s (step s (e .op) .0) e (step s (e .op) .2) (a .reads) (b .0) (b .1) U T' (past U k) n
+
   pub histories : Histories C sort
-  histories s g w shows [] w' begun = record { shows = shows; agree = tt; untouched = λ o a. refl }
+  histories s g w shows [] w' begun = record { shows = shows; agree = tt; tables = λ T T' same n. empty-table s T T' same n; untouched = λ o a. refl }
   histories s g w shows (e ∷ es) w' (then {w' = v} ran h off) =
       let past = histories s g w shows es v ran in
       let now = happened (after s (ops es)) (after-fine s g es) v w' (past .shows) e h off in
-      record { shows = now .0; agree = (now .1, past .agree); untouched = λ o a. off o (a .0) ∙ past .untouched o (a .1) }
+      record {
+        shows = now .0;
+        agree = (now .1, past .agree);
+        tables = λ T T' same n. more (after s (ops es)) e es (now .1) (now .2) T T' (λ U k. past .tables T U same k) n;
+        untouched = λ o a. off o (a .0) ∙ past .untouched o (a .1);
+      }

@@ -5,16 +5,17 @@ use Prim.Native.Nat.{ℕ, _≤_}
 use lib.IntN.{ℤ}
 use lib.ListN.{length, getD, set}
 use Rattle.seq.specs.List.{All}
+use Rattle.thread.specs.Code.{eagain}
 use Rattle.wait_queue.specs.Queue.{maxWaiters}
 use Rattle.wait_queue.specs.Turn.{remove}
 use Rattle.wait_queue.specs.Post as queue
 use Rattle.kind.specs.Kind.{Kind}
 use Rattle.kind.specs.Object.{Layout, Started}
-use Rattle.system.specs.System.{vacant, object, waiting, Sys, Op, invoke, both, dispatch, yield, expire, spawn, create, Answer, reply, Reply, step, after}
+use Rattle.system.specs.System.{State, ready, vacant, object, waiting, Sys, Woken, Op, invoke, both, dispatch, yield, expire, spawn, create, Answer, reply, Reply, step, after}
 use Rattle.system.specs.Part.{Part}
 use Rattle.system.specs.Rules.{Fine}
 use Rattle.system.specs.Functions.{Memory, Use, Function, Double, told}
-use Rattle.system.specs.Link.{Is, read, Handed, Truthful, Caller}
+use Rattle.system.specs.Link.{Is, read, Handed, fate, settle, Truthful, Caller}
 
 -- the code of a kind of object: where an object stands in a header, its functions, and which numbers its init can be told: they have 32 bits
 pub record Code (A : Kind) : Type 1 where
@@ -42,8 +43,8 @@ pub record Library (K : Kind) : Type 1 where
 abbrev pub World : Type 0
 World = ℕ → Memory
 
--- what is seen of an operation: what it is, its answer, the place that was lent for woken threads before and after, and the objects whose memory was
--- lent
+-- what is seen of an operation: what it is, its answer, the place that was lent for woken threads before and after, the objects whose memory was lent, and
+-- what becomes of the thread that called
 pub record Event (K : Kind) : Type 0 where
   pub op : Op K
   pub answer : Answer
@@ -52,13 +53,15 @@ pub record Event (K : Kind) : Type 0 where
   -- the words in it that are read, as many as the answer says
   pub told : List ℕ
   pub on : List ℕ
+  pub by : ℕ
+  pub becomes : State → State
 
 -- a function's use, on the objects l; and what nobody lends a place for
-abbrev pub seen : {K : Kind} → Op K → (ℕ → ℕ) → Use → List ℕ → Event K
-seen x c u l = record { op = x; answer = reply (u .answer); lent = u .lent; filled = u .filled; told = told c u; on = l }
+abbrev pub seen : {K : Kind} → Op K → (ℕ → ℕ) → Use → List ℕ → ℕ → (State → State) → Event K
+seen x c u l i f = record { op = x; answer = reply (u .answer); lent = u .lent; filled = u .filled; told = told c u; on = l; by = i; becomes = f }
 
-abbrev pub quiet : {K : Kind} → Op K → Answer → List ℕ → Event K
-quiet x a l = record { op = x; answer = a; lent = []; filled = []; told = []; on = l }
+abbrev pub quiet : {K : Kind} → Op K → Answer → List ℕ → ℕ → (State → State) → Event K
+quiet x a l i f = record { op = x; answer = a; lent = []; filled = []; told = []; on = l; by = i; becomes = f }
 
 abbrev pub ops : {K : Kind} → List (Event K) → List (Op K)
 ops es = map (λ e. e .op) es
@@ -83,6 +86,27 @@ OfThreads (yield i) = Unit {0}
 OfThreads (expire i) = ⊥
 OfThreads (spawn i p) = Unit {0}
 OfThreads (create o n) = ⊥
+
+abbrev pub actor : {K : Kind} → Op K → ℕ
+actor (invoke i o k) = i
+actor (both i a j b k) = i
+actor (dispatch i) = i
+actor (yield i) = i
+actor (expire i) = i
+actor (spawn i p) = i
+actor (create o n) = 0
+
+-- a kernel's table of states, from T to T', at the event e: who is read is ready, with its result; who called is in the state that the answer tells; no
+-- other changes
+pub record Notes {K : Kind} (e : Event K) (T T' : ℕ → State) : Type 0 where
+  pub ready : All (λ (w : Woken). T' (w .thread) ≡ ready (w .result)) (map read (e .told))
+  pub caller : T' (e .by) ≡ e .becomes (T (e .by))
+  pub others : (t : ℕ) → All (λ (w : Woken). w .thread ≡ t → ⊥) (map read (e .told)) → (e .by ≡ t → ⊥) → T' t ≡ T t
+
+-- and through these events, the newest in front
+pub data Noted {K : Kind} (T : ℕ → State) : List (Event K) → (ℕ → State) → Type 0 where
+  opened : Noted T [] T
+  noted : {es : List (Event K)} {e : Event K} {U T' : ℕ → State} → Noted T es U → Notes e U T' → Noted T (e ∷ es) T'
 
 -- each object has its sort, which no call changes
 module _ {K : Kind} (C : Library K) (sort : ℕ → C .Sort) where
@@ -109,24 +133,24 @@ module _ {K : Kind} (C : Library K) (sort : ℕ → C .Sort) where
     -- the function f was called, by the thread i, on the object o, which is there
     calls : (i o : ℕ) (n : K .Num) (f : class o .code .Fn) (u : Use) → s .slot o ≡ object n → u .before ≡ w o → w' o ≡ u .after
         → Caller (class o .code .function f) s i o u → class o .code .function f .Contract u
-        → Happens s w w' (seen (invoke i o (class o .part .call (class o .code .function f .call))) (class o .code .function f .wrote) u (o ∷ []))
+        → Happens s w w' (seen (invoke i o (class o .part .call (class o .code .function f .call))) (class o .code .function f .wrote) u (o ∷ []) i (fate (class o .code .function f .asks) o (u .answer)))
     -- the function t on two objects, which are there and are two
     pairs : (i a b : ℕ) (m n : K .Num) (t : C .Two) (u : Use) → sort a ≡ C .first t → sort b ≡ C .second t → (a ≡ b → ⊥)
         → s .slot a ≡ object m → s .slot b ≡ object n → u .before ≡ w a → w' a ≡ u .after → Truthful s i u
         → C .double t .Contract u (w b) (w' b)
-        → Happens s w w' (seen (both i a (firstCall t) b (secondCall t)) (C .double t .wrote) u (a ∷ b ∷ []))
+        → Happens s w w' (seen (both i a (firstCall t) b (secondCall t)) (C .double t .wrote) u (a ∷ b ∷ []) i (settle b (u .answer)))
     -- init, in a slot that is vacant and in memory that is long enough
     inits : (o : ℕ) (n : class o .kind .Num) (r : ℤ) → s .slot o ≡ vacant → class o .code .Told n
         → class o .code .layout .words ≤ length (w o .header) → maxWaiters ≤ length (w o .entries)
         → Started (class o .kind) (class o .code .layout) n (w o .header) r (w' o .header) → w' o .entries ≡ w o .entries
-        → Happens s w w' (quiet (create o (class o .part .num n)) (reply r) (o ∷ []))
+        → Happens s w w' (quiet (create o (class o .part .num n)) (reply r) (o ∷ []) 0 (λ x. x))
     -- remove, of a thread that waits on the object o: it is lent the word of the header that has the queue's length
     removes : (i o : ℕ) (n : K .Num) (r : ℤ) (k : ℕ) → s .state i ≡ waiting o → s .slot o ≡ object n
         → queue.Does (remove i) (getD (w o .header) (class o .code .layout .len) 0) (w o .entries) r k (w' o .entries)
         → w' o .header ≡ set (w o .header) (class o .code .layout .len) k
-        → Happens s w w' (quiet (expire i) (reply r) (o ∷ []))
+        → Happens s w w' (quiet (expire i) (reply r) (o ∷ []) i (λ x. ready eagain))
     -- the kernel's own doing
-    moves : (x : Op K) → OfThreads x → Happens s w w' (quiet x (step s x .1) [])
+    moves : (x : Op K) → OfThreads x → Happens s w w' (quiet x (step s x .1) [] (actor x) (λ y. step s x .0 .state (actor x)))
 
   -- these events, the newest in front, from the state s and the memory w; now the memory is w'
   pub data Ran (s : Sys K) (w : World) : List (Event K) → World → Type 0 where
@@ -142,6 +166,8 @@ module _ {K : Kind} (C : Library K) (sort : ℕ → C .Sort) where
   pub record Follows (s : Sys K) (w : World) (es : List (Event K)) (w' : World) : Type 0 where
     pub shows : Shows (after s (ops es)) w'
     pub agree : Agree s es
+    -- a kernel that keeps its table so has the states of the system
+    pub tables : (T T' : ℕ → State) → ((t : ℕ) → T t ≡ s .state t) → Noted T es T' → (t : ℕ) → T' t ≡ after s (ops es) .state t
     -- the memory of an object that was not called is untouched
     pub untouched : (o : ℕ) → All (λ (e : Event K). All (λ x. x ≡ o → ⊥) (e .on)) es → w' o ≡ w o
 
