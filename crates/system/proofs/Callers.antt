@@ -21,7 +21,8 @@ use Rattle.system.specs.Functions.{Use, Did, given, heard, Silent, InWor
 use Rattle.system.specs.Link.{Is, read, word, fate, Truthful, Steps}
 use Rattle.system.proofs.Sheets.{Fits}
 use Rattle.system.proofs.Parts.{wrapped, call-part}
-use Rattle.system.proofs.Woken.{Within, within-part, handed-out, handed-few, handed-read, handed-count, call-readies}
+use Rattle.system.proofs.Woken.{Within, within-part, handed-out, handed-few, handed-read, handed-count}
+use Rattle.system.proofs.Readied.{call-readies}
 use Rattle.system.proofs.Fates.{Unparked, Fated, stays-fated, fated-part, caller-fate}
 use Rattle.system.proofs.Link.{tells, gives, leaves, in-none, in-word, read-all}
 
@@ -45,7 +46,8 @@ runs-valid s g i run =
 
 -- the memory is the object o of s, of which the function is the call k; m: how many words it is lent; c: how many it
 -- wrote, by its answer
-module _ {A K : Kind} (law : Lawful K) (P : Part A K) (fits : Fits P) (L : Layout (A .Num)) (k : A .Call) (m c : ℕ → ℕ) (s : Sys K) (g : Fine s) (i o : ℕ) (u : Use)
+module _ {A K : Kind} (law : Lawful K) (P : Part A K) (fits : Fits P) (L : Layout (A .Num)) (k : A .Call) (m c : ℕ → ℕ) (s : Sys K) (g : Fine s) (i o : ℕ)
+    (u : Use)
     (is : Is L (P .num) s o (u .before .header) (u .before .entries)) where
   abbrev n : A .Num
   n = L .num (u .before .header)
@@ -90,17 +92,20 @@ module _ {A K : Kind} (law : Lawful K) (P : Part A K) (fits : Fits P) (L : Layou
                 ∙ handed-read s g i o (P .call k) (P .num n) (is .slot) m c whole;
             caller =
                 caller-fate s g i o (P .call k) (P .num n) (is .slot) a
-                (subst (λ (d : Verdict (K .Num) (K .Wish)). Fated a d) (sym (fits .decides n (s .wish) (map ident q) i k)) (fated-part (P .num) (P .wish) a (A .decide n v (map ident q) i k) fates))
+                (subst (λ (d : Verdict (K .Num) (K .Wish)). Fated a d) (sym (fits .decides n (s .wish) (map ident q) i k))
+                (fated-part (P .num) (P .wish) a (A .decide n v (map ident q) i k) fates))
                 ∙ ap (λ (z : ℤ). fate a o z (s .state i)) (sym code);
-            readies = call-readies s g i o (P .call k) (P .num n) (is .slot);
+            readies = call-readies s i o (P .call k) (P .num n) (is .slot);
           }
 
       pub silent : m (length q) ≤ 0 → u .lent ≡ [] → u .filled ≡ [] → Steps L (P .num) s i o (P .call k) a c u
       silent z a b = stepped (in-none (called s i o (P .call k) .2) (u .lent) (u .filled) a b (omega (arith, at-most, z)))
 
-      pub in-a-word : m (length q) ≤ 1 → (w w' : ℕ) → u .lent ≡ w ∷ [] → u .filled ≡ w' ∷ [] → Told (given L f u) w w' → Steps L (P .num) s i o (P .call k) a c u
+      pub in-a-word : m (length q) ≤ 1 → (w w' : ℕ) → u .lent ≡ w ∷ [] → u .filled ≡ w' ∷ [] → Told (given L f u) w w'
+          → Steps L (P .num) s i o (P .call k) a c u
       in-a-word z w w' a b t =
-          stepped (in-word (called s i o (P .call k) .2) w w' (u .lent) (u .filled) a b (omega (arith, at-most, z)) (subst (λ (y : List ℕ). Told y w w') words t))
+          stepped (in-word (called s i o (P .call k) .2) w w' (u .lent) (u .filled) a b (omega (arith, at-most, z))
+          (subst (λ (y : List ℕ). Told y w w') words t))
 
       pub in-a-slice : Listed (given L f u) (u .lent) (u .filled) → Steps L (P .num) s i o (P .call k) a c u
       in-a-slice x = stepped (subst (λ (y : List ℕ). Listed y (u .lent) (u .filled)) words x)
@@ -109,9 +114,11 @@ module _ {A K : Kind} (law : Lawful K) (P : Part A K) (fits : Fits P) (L : Layou
     as-thread : Truthful s i u → Same (call A v (thread (u .id) (u .priority) (u .state)) k)
     as-thread t =
         call-part P fits (s .wish) (thread i (s .prio i) (number (s .state i))) k n q
-        ∙ ap (λ (w : object.Caller). wrapped (P .num) (call A v w k n q)) (let x : thread i (s .prio i) (number (s .state i)) ≡ thread (u .id) (u .priority) (u .state) = cc in x)
+        ∙ ap (λ (w : object.Caller). wrapped (P .num) (call A v w k n q)) (let x : thread i (s .prio i) (number (s .state i)) ≡ thread (u .id) (u .priority) (u .state) =
+        cc in x)
 
-    pub by-thread : Fated true (A .decide n v (map ident q) i k) → Truthful s i u → m (length q) ≤ 0 → Silent L (call A v (thread (u .id) (u .priority) (u .state)) k) u → Steps L (P .num) s i o (P .call k) true c u
+    pub by-thread : Fated true (A .decide n v (map ident q) i k) → Truthful s i u → m (length q) ≤ 0
+        → Silent L (call A v (thread (u .id) (u .priority) (u .state)) k) u → Steps L (P .num) s i o (P .call k) true c u
     by-thread y t z x = silent true y _ (as-thread t) (x .does) z (x .lent) (x .filled)
 
     -- it is told a name at most, and a thread that runs calls it
@@ -123,7 +130,8 @@ module _ {A K : Kind} (law : Lawful K) (P : Part A K) (fits : Fits P) (L : Layou
       as-named : Same (call A v (named j) k)
       as-named =
           rw run
-          (call-part P fits (s .wish) (thread i (s .prio i) 1) k n q ∙ ap (wrapped (P .num)) (call-named A v i (s .prio i) j k n q (runs-valid s g i run) same stays))
+          (call-part P fits (s .wish) (thread i (s .prio i) 1) k n q ∙ ap (wrapped (P .num))
+          (call-named A v i (s .prio i) j k n q (runs-valid s g i run) same stays))
 
       pub by-name : m (length q) ≤ 0 → Silent L (call A v (named j) k) u → Steps L (P .num) s i o (P .call k) false c u
       by-name z x = silent false fates _ as-named (x .does) z (x .lent) (x .filled)
@@ -134,7 +142,8 @@ module _ {A K : Kind} (law : Lawful K) (P : Part A K) (fits : Fits P) (L : Layou
       -- there is room for all that are woken
       as-handed : m (length q) ≤ length (u .lent) → Same (handed (length (u .lent)) (call A v (named j) k))
       as-handed l =
-          let e : outcome s i o (P .call k) (P .num n) .turn .woken ≡ call A v (named j) k n q .turn .woken = ap (λ (y : Out (K .Num)). y .turn .woken) as-named in
+          let e : outcome s i o (P .call k) (P .num n) .turn .woken ≡ call A v (named j) k n q .turn .woken = ap
+          (λ (y : Out (K .Num)). y .turn .woken) as-named in
           let w = handed-out s g i o (P .call k) (P .num n) (is .slot) m c whole in
           let c : length (call A v (named j) k n q .turn .woken) ≤ length (u .lent) =
           omega (arith, l, at-most, ap length (sym e ∙ w), length-map (called s i o (P .call k) .2) word) in

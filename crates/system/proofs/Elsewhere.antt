@@ -10,7 +10,9 @@ use borrow.Author.Tests.{ne-eqb}
 use Rattle.thread.specs.Code.{ok, einval}
 use Rattle.thread.specs.Priority.{valid}
 use Rattle.kind.specs.Kind.{Kind}
-use Rattle.system.specs.System.{State, absent, running, ready, waiting, vacant, object, Sys, Op, invoke, both, dispatch, yield, expire, spawn, create, Reply, denied, accept, refuse, unless, free, gone-by, called, dispatched, yielded, left, spawned, born, placed, created, answers, step}
+use Rattle.system.specs.System.{State, absent, running, ready, waiting, vacant, object, Sys, Op, invoke, both, dispatch, yield, expire, spawn}
+use Rattle.system.specs.System.{create, Reply, denied, accept, refuse, unless, free, gone-by, called, dispatched, yielded, left, spawned, born}
+use Rattle.system.specs.System.{placed, created, answers, step}
 use Rattle.system.specs.World.{OfThreads, actor}
 use Rattle.system.proofs.Link.{slot-kept, queue-kept}
 
@@ -112,7 +114,8 @@ module _ {K : Kind} (s : Sys K) (t : ℕ) where
   spawn-others : (i p : ℕ) → (i ≡ t → ⊥) → spawned s i p .0 .state t ≡ s .state t
   spawn-others i p n = go (gone-by (s .state i)) (ltb i 4294967296) (valid p)
     where
-      go : (a b c : Bool) → cond {A = Reply K} a (cond b (cond c (accept (born s i p) ok) (refuse s einval)) (refuse s einval)) (refuse s einval) .0 .state t ≡ s .state t
+      go : (a b c : Bool)
+          → cond {A = Reply K} a (cond b (cond c (accept (born s i p) ok) (refuse s einval)) (refuse s einval)) (refuse s einval) .0 .state t ≡ s .state t
       go true true true = rw (ne-eqb i t n)
       go true true false = refl
       go true false c = refl

@@ -8,11 +8,10 @@ use lib.IntN.{ℤ, pos, negsuc}
 use lib.ListN.{length}
 use Rattle.kind.specs.Verdict.{gone, keep, park, wake, Verdict, deny, allow}
 use Rattle.kind.specs.Kind.{Kind}
-use Rattle.kind.specs.Object.{Out, thread, carried, call}
+use Rattle.kind.specs.Object.{Out, thread, carried}
 use Rattle.system.specs.System as system
 use Rattle.system.specs.Rules.{times, Fine}
 use Rattle.system.proofs.Times.{times-pick, not-held}
-use Rattle.system.proofs.Link.{tells}
 use lib.Dec.{ltb}
 use borrow.Author.Tests.{eq-eqb}
 use Rattle.thread.specs.Code.{enomem, ebusy}

@@ -28,7 +28,9 @@ use Rattle.futex.specs.Futex as futex
 use Rattle.futex.specs.Futex.{Futex, futex-kind}
 use Rattle.futex.specs.Post as value
 use Rattle.system.specs.Part.{Part}
-use Rattle.system.specs.Functions.{nobody, single, everyone, onlyAt, SemFn, give, tryTake, takeBlocking, reset, semFn, MutexFn, tryLock, lockBlocking, unlock, mutexFn, CondvarFn, signal, broadcast, condvarFn, FutexFn, wait, wake, valSet, wakeRoom, futexFn}
+use Rattle.system.specs.Functions.{nobody, single, everyone, onlyAt, SemFn, give, tryTake, takeBlocking, reset, semFn, MutexFn, tryLock}
+use Rattle.system.specs.Functions.{lockBlocking, unlock, mutexFn, CondvarFn, signal, broadcast, condvarFn, FutexFn, wait, wake, valSet}
+use Rattle.system.specs.Functions.{wakeRoom, futexFn}
 use Rattle.system.specs.Link.{signed, Links}
 use Rattle.system.proofs.Sheets.{Fits}
 use Rattle.system.proofs.Woken.{Within, within}
@@ -55,7 +57,8 @@ locks-within n w q d x =
 
 locks-fated : (n : Mutex) (w : ℕ) → Fated true (locks n w (allow n (park tt) waits))
 locks-fated n w =
-    fated true (held (n .owner)) _ _ (fated true (owns w (n .owner)) _ _ (fated true (ltb (n .count) maxCount) _ _ (λ o x. refl) (λ o x. refl)) refl) (λ o x. refl)
+    fated true (held (n .owner)) _ _ (fated true (owns w (n .owner)) _ _ (fated true (ltb (n .count) maxCount) _ _ (λ o x. refl) (λ o x. refl)) refl)
+    (λ o x. refl)
 
 passes-within : (q : List ℕ) → Within single (onlyAt 2) q (passes (map ident q))
 passes-within [] = refl
@@ -106,7 +109,8 @@ module _ {K : Kind} (law : Lawful K) where
   mutex-links P fits tryLock s g i o u is c d =
       let n = lock.layout .num (u .before .header) in
       by-name law P fits lock.layout mutex.tryLock nobody nobody s g i o u is (locks-within n i (s .queue o) (deny ebusy) refl) (u .id) (c .runs refl)
-      (ap (λ (j : ℕ). locks (lock.layout .num (u .before .header)) j (deny ebusy)) (sym (c .told .id))) (locks-unparked n (u .id) (deny ebusy) tt) (omega arith) d
+      (ap (λ (j : ℕ). locks (lock.layout .num (u .before .header)) j (deny ebusy)) (sym (c .told .id))) (locks-unparked n (u .id) (deny ebusy) tt)
+      (omega arith) d
   mutex-links P fits lockBlocking s g i o u is c d =
       by-thread law P fits lock.layout mutex.lock nobody nobody s g i o u is (locks-within (lock.layout .num (u .before .header)) i (s .queue o) _ refl)
       (locks-fated (lock.layout .num (u .before .header)) i) (c .told) (omega arith) d
@@ -121,7 +125,8 @@ module _ {K : Kind} (law : Lawful K) where
       by-word law P fits condition.layout condvar.signal single everyone s g i o u is (signals-within (s .queue o) i) 0 (c .runs refl) refl
       (unparked (any (map ident (s .queue o))) _ _ tt tt) (omega arith) d
   condvar-links P fits broadcast s g i o u is c d =
-      by-slice law P fits condition.layout condvar.broadcast everyone everyone s g i o u is (all-within (s .queue o) ok refl) 0 (c .runs refl) refl tt (c .room) d
+      by-slice law P fits condition.layout condvar.broadcast everyone everyone s g i o u is (all-within (s .queue o) ok refl) 0 (c .runs refl) refl tt
+      (c .room) d
 
   pub futex-links : (P : Part futex-kind K) → Fits P → (f : FutexFn) → Links P value.layout (futexFn f)
   futex-links P fits (wait x) s g i o u is c d =
@@ -129,9 +134,11 @@ module _ {K : Kind} (law : Lawful K) where
       (within nobody nobody (s .queue o) (eqb (value.layout .num (u .before .header) .val) x) _ _ refl refl)
       (fated true (eqb (value.layout .num (u .before .header) .val) x) _ _ refl (λ o x. refl)) (c .told) (omega arith) d
   futex-links P fits (wake true) s g i o u is c d =
-      by-slice law P fits value.layout futex.wakeAll (wakeRoom true) everyone s g i o u is (all-within (s .queue o) ok refl) 0 (c .runs refl) refl tt (c .room) d
+      by-slice law P fits value.layout futex.wakeAll (wakeRoom true) everyone s g i o u is (all-within (s .queue o) ok refl) 0 (c .runs refl) refl tt
+      (c .room) d
   futex-links P fits (wake false) s g i o u is c d =
-      by-slice law P fits value.layout futex.wakeOne (wakeRoom false) everyone s g i o u is (wakes-within (value.layout .num (u .before .header)) (s .queue o) i) 0
+      by-slice law P fits value.layout futex.wakeOne (wakeRoom false) everyone s g i o u is
+      (wakes-within (value.layout .num (u .before .header)) (s .queue o) i) 0
       (c .runs refl) refl (unparked (any (map ident (s .queue o))) _ _ tt tt) (c .room) d
   futex-links P fits (valSet x) s g i o u is c d =
       by-name law P fits value.layout (futex.set x) nobody nobody s g i o u is refl 0 (c .runs refl) refl tt (omega arith) d

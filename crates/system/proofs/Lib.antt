@@ -25,6 +25,7 @@ pub mod MutexExample
 pub mod Theorems
 pub mod Parts
 pub mod Woken
+pub mod Readied
 pub mod Link
 pub mod Fates
 pub mod Callers
@@ -33,6 +34,7 @@ pub mod Inits
 pub mod Waiting
 pub mod WaitBlocking
 pub mod Elsewhere
+pub mod Touched
 pub mod Tables
 pub mod Worlds
 pub mod Library

@@ -73,7 +73,11 @@ module _ {K : Kind} (law : Lawful K) {N : Type 0} (L : Layout N) (num : N → K 
         let l : getD h' (L .len) 0 ≤ maxWaiters = omega (arith, few, ap length y, ap length x, back-length e' (getD h' (L .len) 0)) in
         record {
           words = omega (arith, m .words, d .long .0);
-          room = rw (le-leb (getD h' (L .len) 0) maxWaiters l, le-leb maxWaiters (length e') (omega (arith, room-wide (getD h (L .len) 0) e (m .room), d .long .1))) refl;
+          room = rw (
+            le-leb (getD h' (L .len) 0) maxWaiters l,
+            le-leb maxWaiters (length e')
+                (omega (arith, room-wide (getD h (L .len) 0) e (m .room), d .long .1)),
+          ) refl;
           slot = rw (done c z, eq-eqb o o refl, d .num, here);
           queue = y ∙ sym x;
         }

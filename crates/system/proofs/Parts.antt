@@ -27,7 +27,8 @@ joins-as : {M N : Type 0} (f : M → N) (w : Caller) (m n : M) (q : List ℕ) �
 joins-as f (named i) m n q = refl
 joins-as f (thread i p st) m n q = rw (settled-as f (parked (entry p i) q .code) m n)
 
-carried-as : {M N X Y : Type 0} (f : M → N) (g : X → Y) (w : Caller) (d : Verdict M X) (n : M) (q : List ℕ) → carried w (mapped f g d) (f n) q ≡ wrapped f (carried w d n q)
+carried-as : {M N X Y : Type 0} (f : M → N) (g : X → Y) (w : Caller) (d : Verdict M X) (n : M) (q : List ℕ)
+    → carried w (mapped f g d) (f n) q ≡ wrapped f (carried w d n q)
 carried-as f g w (deny r) n q = refl
 carried-as f g w (allow m keep r) n q = refl
 carried-as f g w (allow m (park x) r) n q = joins-as f w m n q

@@ -12,7 +12,8 @@ use Rattle.system.specs.Link.{read, Readies}
 use Rattle.system.specs.World.{Event, Notes}
 
 -- who is in l is ready in both tables, with the same result
-alike : (T U : ℕ → State) (t : ℕ) (l : List Woken) → All (λ (w : Woken). T (w .thread) ≡ ready (w .result)) l → All (λ (w : Woken). U (w .thread) ≡ ready (w .result)) l
+alike : (T U : ℕ → State) (t : ℕ) (l : List Woken) → All (λ (w : Woken). T (w .thread) ≡ ready (w .result)) l
+    → All (λ (w : Woken). U (w .thread) ≡ ready (w .result)) l
     → (All (λ (w : Woken). w .thread ≡ t → ⊥) l → T t ≡ U t) → T t ≡ U t
 alike T U t [] a b f = f tt
 alike T U t (w ∷ l) a b f = go (eqb (w .thread) t) refl (λ n. alike T U t l (a .1) (b .1) (λ x. f (n, x)))

@@ -19,7 +19,7 @@ use Rattle.condvar.specs.Condvar.{condvar-kind}
 use Rattle.condvar.specs.Post as condition
 use Rattle.condvar.specs.Post.{agreed, Allowed, Waited}
 use Rattle.system.specs.Part.{Part}
-use Rattle.system.specs.System.{ready, number, Sys, reply, called, answers}
+use Rattle.system.specs.System.{number, Sys, reply, called, answers}
 use Rattle.system.specs.Rules.{Fine}
 use Rattle.system.specs.Functions.{Memory, Use, heard, onlyAt, WaitedWith, waitBlocking}
 use Rattle.system.specs.Link.{Is, read, Handed, settle, Truthful, Pairs, LinksBoth}
@@ -57,7 +57,8 @@ module _ {K : Kind} (law : Lawful K) (P : Part mutex-kind K) (fits : Fits P) (C 
   said = waited .code ∙ sym (both-tell law P fits C fitting s g i a b off h e (c .header) (c .entries) x y)
 
   kept : (n : ℕ) → u .answer ≡ negsuc n → (c' .header ≡ c .header) × (c' .entries ≡ c .entries) × (u .after .header ≡ h) × (d .who' ≡ d .who)
-  kept n z = subst (λ (r : ℤ). Refused r ((c' .header ≡ c .header) × (c' .entries ≡ c .entries) × (u .after .header ≡ h) × (d .who' ≡ d .who))) z (waited .neither)
+  kept n z =
+      subst (λ (r : ℤ). Refused r ((c' .header ≡ c .header) × (c' .entries ≡ c .entries) × (u .after .header ≡ h) × (d .who' ≡ d .who))) z (waited .neither)
 
   by-answer : (z : ℤ) → u .answer ≡ z → Goal
   by-answer (negsuc n) z =
@@ -117,13 +118,16 @@ module _ {K : Kind} (law : Lawful K) (P : Part mutex-kind K) (fits : Fits P) (C 
                 rw (ne-eqb a b off, told)
                 (ap (map read)
                 (read-all (called s i a j .2 ++ called (called s i a j .0) i b k .2) (heard (onlyAt 2) (u .answer)) (u .lent) (u .filled) hand
-                (count law P fits C fitting s g i a b off h e q l x y n told v f (u .answer) q' l' m (does .1) (does .0) ∙ ap (heard (onlyAt 2)) (sym (does .1 .code))))
+                (count law P fits C fitting s g i a b off h e q l x y n told v f (u .answer) q' l' m (does .1) (does .0) ∙ ap (heard (onlyAt 2))
+                (sym (does .1 .code))))
                 ∙ reads-both law P fits C fitting s g i a b off h e q l x y n told v f (u .answer) q' l' m (does .1) (does .0));
             caller =
                 rw (ne-eqb a b off, told)
-                (last law P fits C fitting s g i a b off h e q l x y n told v f (u .answer) q' l' m (does .1) (does .0) ∙ ap (λ (r : ℤ). settle b r (s .state i)) (sym z));
+                (last law P fits C fitting s g i a b off h e q l x y n told v f (u .answer) q' l' m (does .1) (does .0) ∙ ap
+                (λ (r : ℤ). settle b r (s .state i)) (sym z));
             readies = rw (ne-eqb a b off, told) (ready-both law P fits C fitting s g i a b off h e q l x y n told v f (u .answer) q' l' m (does .1) (does .0));
           }
 
-pub wait-links : {K : Kind} → Lawful K → (P : Part mutex-kind K) → Fits P → (C : Part condvar-kind K) → Fits C → LinksBoth P lock.layout C condition.layout waitBlocking
+pub wait-links : {K : Kind} → Lawful K → (P : Part mutex-kind K) → Fits P → (C : Part condvar-kind K) → Fits C
+    → LinksBoth P lock.layout C condition.layout waitBlocking
 wait-links law P fits C fitting s g i a b off u c c' x y t d = by-answer law P fits C fitting s g i a b off u c c' x y t d (u .answer) refl

@@ -1,12 +1,11 @@
 -- A mutex is given back and a condition variable waited at, both or neither, in any system that has both. Assumes nothing.
 use mathlib.Core.Bool.{true}
 use mathlib.Core.Path.{_≡_, refl, sym, ap, subst, _∙_}
-use mathlib.Core.List.{List, [], _∷_, _++_, map, append-nil}
+use mathlib.Core.List.{List, [], _∷_, _++_, map}
 use Prim.Native.Nat.{ℕ, _≤_}
 use native.Mathlib.Omega.{arith}
 use lib.IntN.{ℤ, pos, negsuc}
 use lib.ListN.{length}
-use Rattle.seq.specs.List.{All}
 use Rattle.thread.specs.Code.{edeadlk}
 use Rattle.thread.specs.Caller.{callerCode}
 use Rattle.wait_queue.specs.Queue.{ident}
@@ -25,14 +24,15 @@ use Rattle.condvar.specs.Post as condition
 use Rattle.condvar.specs.Post.{agreed}
 use Rattle.system.specs.Part.{Part}
 use Rattle.system.specs.Sum.{mapped}
-use Rattle.system.specs.System.{State, running, waiting, ready, number, Sys, Woken, outcome, verdict, called, answers}
+use Rattle.system.specs.System.{State, running, waiting, number, Sys, outcome, verdict, called, answers}
 use Rattle.system.specs.Rules.{Fine}
 use Rattle.system.specs.Functions.{heard, nobody, single, onlyAt}
 use Rattle.system.specs.Link.{Is, read, word, fate, Handed, Readies}
 use Rattle.system.proofs.Calls.{runs, barred, called-fine}
 use Rattle.system.proofs.Sheets.{Fits}
 use Rattle.system.proofs.Parts.{wrapped, call-part}
-use Rattle.system.proofs.Woken.{Within, within-part, handed-few, handed-read, handed-count, call-readies}
+use Rattle.system.proofs.Woken.{Within, within-part, handed-few, handed-read, handed-count}
+use Rattle.system.proofs.Readied.{call-readies, readies-on, told-on, read-on, length-same, length-on}
 use Rattle.system.proofs.Link.{tells, gives, leaves, in-word, prio-kept, slot-kept, queue-kept, is-kept}
 use Rattle.system.proofs.Fates.{Unparked, Fated, caller-fate, still}
 use Rattle.system.proofs.Functions.{unlocks-unparked, unlocks-within}
@@ -43,43 +43,9 @@ unparked-part f g (allow m keep r) x = tt
 unparked-part f g (allow m (park y) r) x = absurd x
 unparked-part f g (allow m (wake p h) r) x = tt
 
--- one call after another, of which the second wakes nobody, by a thread that still runs between them
-readies-on : {K : Kind} (s t u : Sys K) (i : ℕ) (l m : List Woken) → t .state i ≡ running → length m ≤ 0 → Readies s i l t → Readies t i m u → Readies s i (l ++ m) u
-readies-on s t u i l (y ∷ m) run z a b = absurd (omega (arith, z))
-readies-on s t u i l [] run z a b = record { ready = all l (a .ready); others = λ x c n. b .others x tt n ∙ a .others x (cut l x c) n }
-  where
-    off : (x : ℕ) (r : ℤ) → t .state x ≡ ready r → i ≡ x → ⊥
-    off x r y e =
-        let v : running ≡ ready r = sym run ∙ ap (λ (l : ℕ). t .state l) e ∙ y in
-        absurd (let l : _≡_ {A = ℕ} 0 1 = cc in omega arith)
-
-    all : (l : List Woken) → All (λ (w : Woken). t .state (w .thread) ≡ ready (w .result)) l → All (λ (w : Woken). u .state (w .thread) ≡ ready (w .result)) (l ++ [])
-    all [] y = tt
-    all (x ∷ l) y = (b .others (x .thread) tt (off (x .thread) (x .result) (y .0)) ∙ y .0, all l (y .1))
-
-    cut : (l : List Woken) (x : ℕ) → All (λ (w : Woken). w .thread ≡ x → ⊥) (l ++ []) → All (λ (w : Woken). w .thread ≡ x → ⊥) l
-    cut [] x y = tt
-    cut (w ∷ l) x y = (y .0, cut l x (y .1))
-
--- the words of both
-told-on : (l m : List Woken) (w w' : ℕ) → length m ≤ 0 → Told (map word l) w w' → Told (map word (l ++ m)) w w'
-told-on l (y ∷ m) w w' z t = absurd (omega (arith, z))
-told-on [] [] w w' z t = t
-told-on (x ∷ l) [] w w' z t = t
-
-read-on : (l m : List Woken) → length m ≤ 0 → map read (map word l) ≡ l → map read (map word (l ++ m)) ≡ l ++ m
-read-on l (y ∷ m) z t = absurd (omega (arith, z))
-read-on l [] z t = rw (append-nil l) t
-
-length-same : (l m : List Woken) → length m ≤ 0 → length (l ++ m) ≡ length l
-length-same l (y ∷ m) z = absurd (omega (arith, z))
-length-same l [] z = ap length (append-nil l)
-
-length-on : (l m : List Woken) → length m ≤ 0 → length l ≤ 1 → length (l ++ m) ≤ 1
-length-on l m z t = omega (arith, length-same l m z)
-
 module _ {K : Kind} (law : Lawful K) (P : Part mutex-kind K) (fits : Fits P) (C : Part condvar-kind K) (fitting : Fits C)
-    (s : Sys K) (g : Fine s) (i a b : ℕ) (off : a ≡ b → ⊥) (m d h e : List ℕ) (x : Is lock.layout (P .num) s a m d) (y : Is condition.layout (C .num) s b h e) where
+    (s : Sys K) (g : Fine s) (i a b : ℕ) (off : a ≡ b → ⊥) (m d h e : List ℕ) (x : Is lock.layout (P .num) s a m d)
+    (y : Is condition.layout (C .num) s b h e) where
   abbrev p : ℕ
   p = s .prio i
 
@@ -148,7 +114,8 @@ module _ {K : Kind} (law : Lawful K) (P : Part mutex-kind K) (fits : Fits P) (C 
         go : (w : ℤ) → callerCode p st ≡ w → s .state i ≡ running
         go (pos k) v = runs p (s .state i) k v
         go (negsuc k) v =
-            let o : outcome s i a release (P .num n) ≡ refused (negsuc k) (P .num n) (s .queue a) = barred s i a release (P .num n) (g .formed a (P .num n) (x .slot)) k v in
+            let o : outcome s i a release (P .num n) ≡ refused (negsuc k) (P .num n) (s .queue a) = barred s i a release (P .num n)
+            (g .formed a (P .num n) (x .slot)) k v in
             let t : called s i a release .1 ≡ negsuc k = rw (x .slot) (ap (λ (u : Out (K .Num)). u .turn .code) o) in
             let l : pos c ≡ negsuc k = sym z ∙ sym first-tells ∙ t in
             absurd (let j : _≡_ {A = ℕ} 0 1 = cc in omega arith)
@@ -183,17 +150,21 @@ module _ {K : Kind} (law : Lawful K) (P : Part mutex-kind K) (fits : Fits P) (C 
     pub second-is : Is condition.layout (C .num) end b h' e'
     second-is = leaves law condition.layout (C .num) mid fine-mid i b await (condition.waitOut i p st) h e y-mid (second-same k z) waits h' e' two
 
-    pub hands : (w w' : ℕ) (out out' : List ℕ) → out ≡ w ∷ [] → out' ≡ w' ∷ [] → Told (given .turn .woken) w w' → Handed (called s i a release .2 ++ called mid i b await .2) out out'
+    pub hands : (w w' : ℕ) (out out' : List ℕ) → out ≡ w ∷ [] → out' ≡ w' ∷ [] → Told (given .turn .woken) w w'
+        → Handed (called s i a release .2 ++ called mid i b await .2) out out'
     hands w w' out out' v v' t =
         in-word (called s i a release .2 ++ called mid i b await .2) w w' out out' v v'
-        (length-on (called s i a release .2) (called mid i b await .2) second-none (handed-few s g i a release (P .num n) (x .slot) single (onlyAt 2) first-within))
+        (length-on (called s i a release .2) (called mid i b await .2) second-none
+        (handed-few s g i a release (P .num n) (x .slot) single (onlyAt 2) first-within))
         (told-on (called s i a release .2) (called mid i b await .2) w w' second-none
-        (subst (λ (l : List ℕ). Told l w w') (gives law lock.layout (P .num) s g i a release (releaseOut i p st) m d x first-same single (onlyAt 2) first-within) t))
+        (subst (λ (l : List ℕ). Told l w w') (gives law lock.layout (P .num) s g i a release (releaseOut i p st) m d x first-same single
+        (onlyAt 2) first-within) t))
 
     pub ready-both : Readies s i (called s i a release .2 ++ called mid i b await .2) end
     ready-both =
-        readies-on s mid end i (called s i a release .2) (called mid i b await .2) (state-mid k z ∙ run k z) second-none (call-readies s g i a release (P .num n) (x .slot))
-        (call-readies mid fine-mid i b await (C .num tt) (y-mid .slot))
+        readies-on s mid end i (called s i a release .2) (called mid i b await .2) (state-mid k z ∙ run k z) second-none
+        (call-readies s i a release (P .num n) (x .slot))
+        (call-readies mid i b await (C .num tt) (y-mid .slot))
 
     -- as many words as the first's answer says
     pub count : length (called s i a release .2 ++ called mid i b await .2) ≡ heard (onlyAt 2) (given .turn .code)
@@ -203,7 +174,8 @@ module _ {K : Kind} (law : Lawful K) (P : Part mutex-kind K) (fits : Fits P) (C 
 
     pub reads-both : map read (map word (called s i a release .2 ++ called mid i b await .2)) ≡ called s i a release .2 ++ called mid i b await .2
     reads-both =
-        read-on (called s i a release .2) (called mid i b await .2) second-none (handed-read s g i a release (P .num n) (x .slot) single (onlyAt 2) first-within)
+        read-on (called s i a release .2) (called mid i b await .2) second-none
+        (handed-read s g i a release (P .num n) (x .slot) single (onlyAt 2) first-within)
 
     -- the caller waits
     pub last : end .state i ≡ waiting b

@@ -1,15 +1,13 @@
--- The words that a call hands out are those of the threads that the step wakes, and these are made ready. Assumes nothing.
+-- The words that a call hands out are those of the threads that the step wakes, as many as its answer says. Assumes nothing.
 use mathlib.Core.Path.{_≡_, refl, sym, subst, _∙_}
 use mathlib.Core.Bool.{Bool, true, false, cond}
 use mathlib.Core.List.{List, [], _∷_, map}
 use Prim.Native.Nat.{ℕ, _≤_}
 use native.Mathlib.Omega.{arith}
-use lib.Dec.{eqb, ltb}
+use lib.Dec.{ltb}
 use lib.IntN.{ℤ, pos, negsuc}
 use lib.ListN.{length, length-map}
-use borrow.Author.Tests.{eq-eqb, ne-eqb}
 use Rattle.seq.specs.Word as half
-use Rattle.seq.specs.List.{All}
 use Rattle.thread.specs.Code.{enomem, ebusy}
 use Rattle.thread.specs.Caller.{callerCode}
 use Rattle.wait_queue.specs.Queue.{maxWaiters, entry, ident, holds, joined}
@@ -17,14 +15,14 @@ use Rattle.wait_queue.specs.Queue as queue
 use Rattle.wait_queue.specs.Turn.{refuse, waits, parked}
 use Rattle.wait_queue.proofs.Answers.{ident-entry}
 use Rattle.wait_queue.proofs.Insertion.{prio-entry}
-use Rattle.kind.specs.Verdict.{Pick, gone, keep, park, wake, Verdict, deny, allow}
+use Rattle.kind.specs.Verdict.{gone, keep, park, wake, Verdict, deny, allow}
 use Rattle.kind.specs.Kind.{Kind}
 use Rattle.kind.specs.Object.{Out, thread, carried}
 use Rattle.system.specs.Sum.{mapped}
-use Rattle.system.specs.System.{ready, number, Slot, object, Sys, Woken, deed, woken, unless, serve, outcome, verdict, visited, called}
+use Rattle.system.specs.System.{number, Slot, object, Sys, Woken, deed, woken, unless, outcome, verdict, visited, called}
 use Rattle.system.specs.Rules.{Fine}
 use Rattle.system.specs.Functions.{heard}
-use Rattle.system.specs.Link.{signed, read, word, Readies}
+use Rattle.system.specs.Link.{signed, read, word}
 use Rattle.system.proofs.Calls.{barred, granted}
 
 -- a verdict on an object at which q wait: it wakes m n at most where n wait, by an answer that is no refusal, as many as c says of the answer,
@@ -33,7 +31,8 @@ abbrev pub Within : {N W : Type 0} → (ℕ → ℕ) → (ℕ → ℕ) → List 
 Within m c q (deny r) = heard c r ≡ 0
 Within m c q (allow n keep r) = heard c r ≡ 0
 Within m c q (allow n (park x) r) = c 1 ≡ 0
-Within m c q (allow n (wake p f) (pos r)) = (length (gone ident p q) ≤ m (length q)) × (length (gone ident p q) ≡ c r) × ((t : ℕ) → signed (half.word (f t)) ≡ f t)
+Within m c q (allow n (wake p f) (pos r)) =
+    (length (gone ident p q) ≤ m (length q)) × (length (gone ident p q) ≡ c r) × ((t : ℕ) → signed (half.word (f t)) ≡ f t)
 Within m c q (allow n (wake p f) (negsuc r)) = ⊥
 
 module _ (m c : ℕ → ℕ) (q : List ℕ) where
@@ -75,8 +74,10 @@ reads-back : (f : ℕ → ℤ) → ((t : ℕ) → signed (half.word (f t)) ≡ f
     → map read (map word (map (λ x. record { thread = ident x; result = f (ident x) }) l)) ≡ map (λ x. record { thread = ident x; result = f (ident x) }) l
 reads-back f h [] = refl
 reads-back f h (x ∷ l) =
-    let a : ident (entry (half.word (f (ident x))) (ident (ident x))) ≡ ident (ident x) = ident-entry (half.word (f (ident x))) (ident (ident x)) (omega arith) in
-    let b : half.high (entry (half.word (f (ident x))) (ident (ident x))) ≡ half.word (f (ident x)) = prio-entry (half.word (f (ident x))) (ident (ident x)) (omega arith) in
+    let a : ident (entry (half.word (f (ident x))) (ident (ident x))) ≡ ident (ident x) = ident-entry (half.word (f (ident x))) (ident (ident x))
+    (omega arith) in
+    let b : half.high (entry (half.word (f (ident x))) (ident (ident x))) ≡ half.word (f (ident x)) = prio-entry (half.word (f (ident x))) (ident (ident x))
+    (omega arith) in
     let c : ident (ident x) ≡ ident x = omega arith in
     rw (reads-back f h l, a, b, c, h (ident x)) refl
 
@@ -138,7 +139,8 @@ module _ {K : Kind} (s : Sys K) (g : Fine s) (i o : ℕ) (k : K .Call) (n : K .N
           subst (λ (y : Slot (K .Num)). outcome s i o k n .turn .woken ≡ map word (visited y s i o k .2)) (sym h)
           (go (callerCode (s .prio i) (number (s .state i))) refl)
         where
-          go : (z : ℤ) → callerCode (s .prio i) (number (s .state i)) ≡ z → outcome s i o k n .turn .woken ≡ map word (awake (outcome s i o k n .turn .code) (verdict s i o k n))
+          go : (z : ℤ) → callerCode (s .prio i) (number (s .state i)) ≡ z
+              → outcome s i o k n .turn .woken ≡ map word (awake (outcome s i o k n .turn .code) (verdict s i o k n))
           go (negsuc r) z = rw (barred s i o k n (g .formed o n h) r z) refl
           go (pos r) z = rw (granted s i o k n (g .formed o n h) r z) (told (verdict s i o k n) x)
 
@@ -160,31 +162,3 @@ module _ {K : Kind} (s : Sys K) (g : Fine s) (i o : ℕ) (k : K .Call) (n : K .N
               → length (awake (outcome s i o k n .turn .code) (verdict s i o k n)) ≡ heard c (outcome s i o k n .turn .code)
           go (negsuc r) z = rw (barred s i o k n (g .formed o n h) r z) refl
           go (pos r) z = rw (granted s i o k n (g .formed o n h) r z) (counted (verdict s i o k n) x)
-
-  off : (t : ℕ) (f : ℕ → ℤ) (y : List ℕ) → All (λ (w : Woken). w .thread ≡ t → ⊥) (map (λ x. record { thread = ident x; result = f (ident x) }) y) → holds t y ≡ false
-  off t f [] a = refl
-  off t f (x ∷ y) a = rw (ne-eqb (ident x) t (a .0), off t f y (a .1))
-
-  -- who is woken is made ready, and no other changes but the caller
-  pub call-readies : Readies s i l (called s i o k .0)
-  call-readies =
-      subst (λ (y : Slot (K .Num)). Readies s i (visited y s i o k .2) (visited y s i o k .0)) (sym h) (go (outcome s i o k n .turn .code) (verdict s i o k n))
-    where
-      roused : (m : K .Num) (p : Pick) (f : ℕ → ℤ) (r : ℤ) (y : List ℕ) → ((t : ℕ) → holds t y ≡ true → holds t (gone ident p q) ≡ true)
-          → All (λ (w : Woken). serve s i o (allow m (wake p f) r) (outcome s i o k n) .state (w .thread) ≡ ready (w .result)) (map (λ x. record { thread = ident x; result = f (ident x) }) y)
-      roused m p f r [] a = tt
-      roused m p f r (x ∷ y) a =
-          let e : holds (ident x) (gone ident p q) ≡ true = a (ident x) (rw (eq-eqb (ident x) (ident x) refl) refl) in
-          (rw e, roused m p f r y (λ t z. a t (by (eqb (ident x) t) t z)))
-        where
-          by : (b : Bool) (t : ℕ) → holds t y ≡ true → cond b true (holds t y) ≡ true
-          by true t z = refl
-          by false t z = z
-
-      go : (z : ℤ) (d : Verdict (K .Num) (K .Wish)) → Readies s i (unless z [] (woken (deed d) q)) (unless z s (serve s i o d (outcome s i o k n)))
-      go (negsuc c) d = record { ready = tt; others = λ t a x. refl }
-      go (pos c) (deny r) = record { ready = tt; others = λ t a x. refl }
-      go (pos c) (allow m keep r) = record { ready = tt; others = λ t a x. refl }
-      go (pos c) (allow m (park y) r) = record { ready = tt; others = λ t a x. rw (ne-eqb i t x) }
-      go (pos c) (allow m (wake p f) r) =
-          record { ready = roused m p f r (gone ident p q) (λ t z. z); others = λ t a x. rw (off t f (gone ident p q) a) }

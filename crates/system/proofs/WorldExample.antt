@@ -48,10 +48,32 @@ given = upd taken 0 (words 2 0 (entry 5 7 ∷ zeros 63))
 
 -- thread 7, of priority 5, takes; thread 1 gives, and lends a word
 abbrev takes : Use
-takes = record { id = 7; priority = 5; state = 1; before = words 2 0 (zeros 64); lent = []; answer = pos 1; after = words 2 1 (entry 5 7 ∷ zeros 63); filled = [] }
+takes =
+    record {
+      id = 7;
+      priority = 5;
+      state = 1;
+      before = words 2 0 (zeros 64);
+      lent = [];
+      answer = pos 1;
+      after = words 2 1
+          (entry 5 7 ∷ zeros 63);
+      filled = [];
+    }
 
 abbrev gives : Use
-gives = record { id = 1; priority = 0; state = 1; before = words 2 1 (entry 5 7 ∷ zeros 63); lent = 99 ∷ []; answer = pos 0; after = words 2 0 (entry 5 7 ∷ zeros 63); filled = 7 ∷ [] }
+gives =
+    record {
+      id = 1;
+      priority = 0;
+      state = 1;
+      before = words 2 1 (entry 5 7 ∷ zeros 63);
+      lent = 99 ∷ [];
+      answer = pos 0;
+      after = words 2 0
+          (entry 5 7 ∷ zeros 63);
+      filled = 7 ∷ [];
+    }
 
 elsewhere : (w : World) (m : Memory) → Elsewhere (0 ∷ []) w (upd w 0 m)
 elsewhere w m x a = rw (ne-eqb 0 x (a .0))
@@ -84,7 +106,12 @@ ran =
     (record { code = refl; made = λ e. (refl, λ e. refl); kept = tt; beside = refl; long = refl }) refl)
     (elsewhere empty (words 2 0 (zeros 64))))
     (calls 7 0 (aSem (record { count = 0; limit = 2 })) takeBlocking takes refl refl refl
-    (record { told = record { id = refl; priority = refl; state = refl }; runs = λ e. absurd (let y : _≡_ {A = ℕ} 0 1 = cc in omega arith); room = omega arith })
+    (record {
+      told = record { id = refl; priority = refl; state = refl };
+      runs = λ e. absurd
+          (let y : _≡_ {A = ℕ} 0 1 = cc in omega arith);
+      room = omega arith;
+    })
     (record {
       does = record { code = refl; num = refl; queue = refl; kept = tt; beside = refl; rest = refl; long = (refl, refl) };
       lent = refl;
@@ -106,5 +133,11 @@ ran =
 -- so the system did the same: its answers and its words are these, and the memory is its state
 pub followed : Follows library sort bare empty events given
 followed =
-    code-histories sort bare (always rtos-lawful bare (record { none = λ o. refl; empty = λ o. refl; awake = λ o t. refl; known = λ t n. absurd (n refl) }) []) empty
+    code-histories sort bare (always rtos-lawful bare (record {
+      none = λ o. refl;
+      empty = λ o. refl;
+      awake = λ o t. refl;
+      known = λ t n. absurd
+          (n refl);
+    }) []) empty
     (λ o n e. absurd (let y : _≡_ {A = ℕ} 0 1 = cc in omega arith)) events given ran

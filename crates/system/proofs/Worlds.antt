@@ -1,26 +1,27 @@
 -- A history of calls of the code on objects in memory is a history of the system. Assumes nothing.
 use mathlib.Core.Path.{_≡_, refl, sym, subst, ap, _∙_}
-use mathlib.Core.Bool.{Bool, true, false}
-use mathlib.Core.List.{List, [], _∷_, map}
+use mathlib.Core.Bool.{false}
+use mathlib.Core.List.{List, [], _∷_}
 use Prim.Native.Nat.{ℕ, _<_}
 use native.Mathlib.Omega.{arith}
-use lib.Dec.{eqb}
 use lib.IntN.{ℤ, pos, negsuc}
 use lib.ListN.{set}
-use borrow.Author.Tests.{eq-eqb, ne-eqb, eqb-true, eqb-false}
+use borrow.Author.Tests.{eq-eqb, ne-eqb}
 use Rattle.thread.specs.Code.{ok, eagain}
 use Rattle.kind.specs.Kind.{Kind, Lawful}
 use Rattle.condvar.specs.Post.{Allowed}
-use Rattle.system.specs.System.{State, ready, object, Sys, Woken, Reply, expired, both, expire, create, left, created, done, reply, step, after, called}
+use Rattle.system.specs.System.{State, ready, Sys, expired, both, expire, create, left, created, done, reply, step, after, called}
 use Rattle.system.specs.Rules.{Fine}
 use Rattle.system.specs.Functions.{Memory}
-use Rattle.system.specs.Link.{Is, read, Handed, Readies, Links, LinksBoth, Turns}
-use Rattle.system.specs.World.{Library, World, Event, quiet, actor, Noted, opened, noted, ops, Agrees, Elsewhere, Holds, Shows, Happens, calls, pairs, inits, removes, moves, begun, then, Histories}
+use Rattle.system.specs.Link.{Is, Readies, Links, LinksBoth, Turns}
+use Rattle.system.specs.World.{Library, World, Event, quiet, actor, Noted, opened, noted, ops, Agrees, Elsewhere, Holds, Shows, Happens, calls}
+use Rattle.system.specs.World.{pairs, inits, removes, moves, begun, then, Histories}
 use Rattle.system.proofs.Steps.{step-fine}
 use Rattle.system.proofs.Sheets.{Fits}
-use Rattle.system.proofs.Link.{is-kept}
 use Rattle.system.proofs.Inits.{makes, expires}
-use Rattle.system.proofs.Elsewhere.{Kept, call-kept, both-kept, left-kept, create-kept, create-silent, create-denied, create-states, moves-kept, moves-others}
+use Rattle.system.proofs.Elsewhere.{call-kept, both-kept, left-kept, create-kept, create-silent, create-denied, create-states}
+use Rattle.system.proofs.Elsewhere.{moves-kept, moves-others}
+use Rattle.system.proofs.Touched.{There, stays, one-touched, two-touched, silent, unroused}
 use Rattle.system.proofs.Tables.{table}
 
 -- what is proved of each function, and of where each object stands in its header
@@ -37,31 +38,6 @@ pub record Linked {K : Kind} (C : Library K) : Type 0 where
 module _ {K : Kind} (C : Library K) (linked : Linked C) (sort : ℕ → C .Sort) where
   -- one event
   module _ (s : Sys K) (g : Fine s) (w w' : World) (shows : Shows C sort s w) where
-    abbrev There : Sys K → ℕ → Type 0
-    There t x = (n : K .Num) → t .slot x ≡ object n → Holds C sort t x (w' x)
-
-    -- an object that is not touched
-    stays : (t : Sys K) (x : ℕ) → Kept s t x → w' x ≡ w x → There t x
-    stays t x k e n z =
-        subst (λ (m : Memory). Holds C sort t x m) (sym e)
-        (is-kept (C .class (sort x) .code .layout) (C .class (sort x) .part .num) s t x (w x .header) (w x .entries) (k .slot) (k .queue) (shows x n (sym (k .slot) ∙ z)))
-
-    -- one is touched, and the others stay; two are
-    one-touched : (t : Sys K) (o : ℕ) → There t o → ((x : ℕ) → (o ≡ x → ⊥) → Kept s t x) → Elsewhere (o ∷ []) w w' → (x : ℕ) → There t x
-    one-touched t o here kept off x = go (eqb o x) refl
-      where
-        go : (b : Bool) → eqb o x ≡ b → There t x
-        go true e = subst (λ (y : ℕ). There t y) (eqb-true o x e) here
-        go false e = stays t x (kept x (eqb-false o x e)) (off x (eqb-false o x e, tt))
-
-    two-touched : (t : Sys K) (a b : ℕ) → There t a → There t b → ((x : ℕ) → (a ≡ x → ⊥) → (b ≡ x → ⊥) → Kept s t x) → Elsewhere (a ∷ b ∷ []) w w' → (x : ℕ) → There t x
-    two-touched t a b here there kept off x = go (eqb a x) (eqb b x) refl refl
-      where
-        go : (c d : Bool) → eqb a x ≡ c → eqb b x ≡ d → There t x
-        go true d e f = subst (λ (y : ℕ). There t y) (eqb-true a x e) here
-        go false true e f = subst (λ (y : ℕ). There t y) (eqb-true b x f) there
-        go false false e f = stays t x (kept x (eqb-false a x e) (eqb-false b x f)) (off x (eqb-false a x e, (eqb-false b x f, tt)))
-
     -- what becomes of the threads
     abbrev Settles : Event K → Type 0
     Settles e = Readies s (e .by) (step s (e .op) .2) (step s (e .op) .0) × (step s (e .op) .0 .state (e .by) ≡ e .becomes (s .state (e .by)))
@@ -69,24 +45,13 @@ module _ {K : Kind} (C : Library K) (linked : Linked C) (sort : ℕ → C .Sort)
     abbrev Stepped : Event K → Type 0
     Stepped e = Shows C sort (step s (e .op) .0) w' × Agrees e (step s (e .op)) × Settles e
 
-    -- nobody is woken, and no place was lent
-    silent : (e : Event K) (y : Reply K) → e .answer ≡ y .1 → y .2 ≡ [] → e .filled ≡ e .lent → e .told ≡ [] → Agrees e y
-    silent e y a z f t =
-        record {
-          answer = a;
-          handed = subst (λ (l : List Woken). Handed l (e .lent) (e .filled)) (sym z) f;
-          reads = ap (map read) t ∙ sym z;
-        }
-
-    unroused : (t : Sys K) (i : ℕ) {l : List Woken} → l ≡ [] → ((x : ℕ) → (i ≡ x → ⊥) → t .state x ≡ s .state x) → Readies s i l t
-    unroused t i e f = rw e (record { ready = tt; others = λ x a n. f x n })
-
     happened : (e : Event K) → Happens C sort s w w' e → Elsewhere (e .on) w w' → Stepped e
     happened e (calls i o n f u there before after c d) off =
         let F = C .class (sort o) .code .function f in
         let k = C .class (sort o) .part .call (F .call) in
         let x = linked .links (sort o) f s g i o u (subst (λ (m : Memory). Holds C sort s o m) (sym before) (shows o n there)) c d in (
-          one-touched (called s i o k .0) o (λ m z. subst (λ (y : Memory). Holds C sort (called s i o k .0) o y) (sym after) (x .is)) (λ y z. call-kept s y i o k z) off,
+          one-touched C sort s w w' shows (called s i o k .0) o (λ m z. subst (λ (y : Memory). Holds C sort (called s i o k .0) o y) (sym after) (x .is))
+              (λ y z. call-kept s y i o k z) off,
           record { answer = ap reply (x .code); handed = x .handed; reads = x .reads },
           (x .readies, x .caller),
         )
@@ -95,13 +60,16 @@ module _ {K : Kind} (C : Library K) (linked : Linked C) (sort : ℕ → C .Sort)
         let k = C .class (C .second t) .part .call (C .double t .second) in
         let x =
         linked .double t s g i a b apart u (w b) (w' b)
-        (subst (λ (y : C .Sort). Is (C .class y .code .layout) (C .class y .part .num) s a (u .before .header) (u .before .entries)) sa (subst (λ (l : Memory). Holds C sort s a l) (sym before) (shows a m ta)))
+        (subst (λ (y : C .Sort). Is (C .class y .code .layout) (C .class y .part .num) s a (u .before .header) (u .before .entries)) sa
+        (subst (λ (l : Memory). Holds C sort s a l) (sym before) (shows a m ta)))
         (subst (λ (y : C .Sort). Is (C .class y .code .layout) (C .class y .part .num) s b (w b .header) (w b .entries)) sb (shows b n tb)) c d in (
-          two-touched (step s (both i a j b k) .0) a b
+          two-touched C sort s w w' shows (step s (both i a j b k) .0) a b
               (λ l z.
               subst (λ (y : Memory). Holds C sort (step s (both i a j b k) .0) a y) (sym after)
-              (subst (λ (y : C .Sort). Is (C .class y .code .layout) (C .class y .part .num) (step s (both i a j b k) .0) a (u .after .header) (u .after .entries)) (sym sa) (x .first)))
-              (λ l z. subst (λ (y : C .Sort). Is (C .class y .code .layout) (C .class y .part .num) (step s (both i a j b k) .0) b (w' b .header) (w' b .entries)) (sym sb) (x .second))
+              (subst (λ (y : C .Sort). Is (C .class y .code .layout) (C .class y .part .num) (step s (both i a j b k) .0) a (u .after .header)
+              (u .after .entries)) (sym sa) (x .first)))
+              (λ l z. subst (λ (y : C .Sort). Is (C .class y .code .layout) (C .class y .part .num) (step s (both i a j b k) .0) b (w' b .header)
+              (w' b .entries)) (sym sb) (x .second))
               (λ y p q. both-kept s y i a j b k apart p q) off,
           record { answer = x .code; handed = x .handed; reads = x .reads },
           (x .readies, x .caller),
@@ -109,27 +77,32 @@ module _ {K : Kind} (C : Library K) (linked : Linked C) (sort : ℕ → C .Sort)
     happened e (inits o n r v told words room d entries) off =
         let P = C .class (sort o) .part in
         let x =
-        makes P (linked .fits (sort o)) (C .class (sort o) .code .layout) s g o n (w o .header) (w o .entries) r (w' o .header) v words room (linked .told (sort o) n told) d in (
-          one-touched (created s o (P .num n) .0) o (here r x) (λ y z. create-kept s y o (P .num n) v z) off,
-          silent (quiet (create o (P .num n)) (reply r) (o ∷ []) 0 (λ x. x)) (step s (create o (P .num n))) (x .code) (create-silent s o o (P .num n) v) refl refl,
-          (unroused (created s o (P .num n) .0) 0 (create-silent s o o (P .num n) v) (λ t z. create-states s t o (P .num n)), create-states s 0 o (P .num n)),
+        makes P (linked .fits (sort o)) (C .class (sort o) .code .layout) s g o n (w o .header) (w o .entries) r (w' o .header) v words room
+        (linked .told (sort o) n told) d in (
+          one-touched C sort s w w' shows (created s o (P .num n) .0) o (here r x) (λ y z. create-kept s y o (P .num n) v z) off,
+          silent (quiet (create o (P .num n)) (reply r) (o ∷ []) 0 (λ x. x)) (step s (create o (P .num n))) (x .code)
+              (create-silent s o o (P .num n) v) refl refl,
+          (unroused s (created s o (P .num n) .0) 0 (create-silent s o o (P .num n) v) (λ t z. create-states s t o (P .num n)), create-states s 0 o (P .num n)),
         )
       where
-        here : (r : ℤ) → Turns (C .class (sort o) .code .layout) (C .class (sort o) .part .num) s o (create o (C .class (sort o) .part .num n)) r (w' o .header) (w o .entries)
-            → There (created s o (C .class (sort o) .part .num n) .0) o
+        here : (r : ℤ)
+            → Turns (C .class (sort o) .code .layout) (C .class (sort o) .part .num) s o (create o (C .class (sort o) .part .num n)) r (w' o .header) (w o .entries)
+            → There C sort s w w' shows (created s o (C .class (sort o) .part .num n) .0) o
         here (pos c) x m z =
             subst
-            (λ (y : List ℕ). Is (C .class (sort o) .code .layout) (C .class (sort o) .part .num) (created s o (C .class (sort o) .part .num n) .0) o (w' o .header) y)
+            (λ (y : List ℕ). Is (C .class (sort o) .code .layout) (C .class (sort o) .part .num) (created s o (C .class (sort o) .part .num n) .0) o
+            (w' o .header) y)
             (sym entries) (x .is)
         here (negsuc c) x m z = absurd (create-denied s o o (C .class (sort o) .part .num n) v (negsuc c) m (x .code) z)
     happened e (removes i o n r k state there d header) off =
         let L = C .class (sort o) .code .layout in
         let num = C .class (sort o) .part .num in
-        let x = expires L num (linked .beside (sort o)) (linked .own (sort o)) s g i o (w o .header) (w o .entries) (shows o n there) state r k (w' o .entries) d in
+        let x = expires L num (linked .beside (sort o)) (linked .own (sort o)) s g i o (w o .header) (w o .entries) (shows o n there) state r k
+        (w' o .entries) d in
         let c : reply r ≡ done ok = subst (λ (y : State). reply r ≡ expired y s i .1) state (x .code) in
         let m : Allowed r (Is L num (left s i o) o (set (w o .header) (L .len) k) (w' o .entries)) =
         subst (λ (y : State). Allowed r (Is L num (expired y s i .0) o (set (w o .header) (L .len) k) (w' o .entries))) state (x .is) in (
-          subst (λ (y : State). Shows C sort (expired y s i .0) w') (sym state) (one-touched (left s i o) o (here r c m) (λ y z. left-kept s y i o z) off),
+          subst (λ (y : State). Shows C sort (expired y s i .0) w') (sym state) (one-touched C sort s w w' shows (left s i o) o (here r c m) (λ y z. left-kept s y i o z) off),
           silent (quiet (expire i) (reply r) (o ∷ []) i (λ x. ready eagain)) (step s (expire i)) (x .code) (rw state refl) refl refl,
           subst
               (λ (y : State). Readies s i (expired y s i .2) (expired y s i .0) × (expired y s i .0 .state i ≡ ready eagain)) (sym state)
@@ -138,14 +111,14 @@ module _ {K : Kind} (C : Library K) (linked : Linked C) (sort : ℕ → C .Sort)
       where
         here : (r : ℤ) → reply r ≡ done ok
             → Allowed r (Is (C .class (sort o) .code .layout) (C .class (sort o) .part .num) (left s i o) o (set (w o .header) (C .class (sort o) .code .layout .len) k) (w' o .entries))
-            → There (left s i o) o
+            → There C sort s w w' shows (left s i o) o
         here (pos c) e y m z =
             subst (λ (l : List ℕ). Is (C .class (sort o) .code .layout) (C .class (sort o) .part .num) (left s i o) o l (w' o .entries)) (sym header) y
         here (negsuc c) e y m z = absurd (let l : _≡_ {A = ℕ} 0 1 = cc in omega arith)
     happened e (moves x z) off = (
-      λ y. stays (step s x .0) y (moves-kept s y x z .0) (off y tt),
+      λ y. stays C sort s w w' shows (step s x .0) y (moves-kept s y x z .0) (off y tt),
       silent (quiet x (step s x .1) [] (actor x) (λ y. step s x .0 .state (actor x))) (step s x) refl (moves-kept s 0 x z .1) refl refl,
-      (unroused (step s x .0) (actor x) (moves-kept s 0 x z .1) (λ t n. moves-others s t x z n), refl),
+      (unroused s (step s x .0) (actor x) (moves-kept s 0 x z .1) (λ t n. moves-others s t x z n), refl),
     )
 
   -- any number of them

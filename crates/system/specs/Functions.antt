@@ -113,7 +113,13 @@ abbrev pub semFn : SemFn → Function sem-kind
 semFn give = record { call = sem.give; asks = false; room = single; wrote = onlyAt 0; Contract = InWord semaphore.layout semaphore.giveOut }
 semFn tryTake = record { call = sem.tryTake; asks = false; room = nobody; wrote = nobody; Contract = Silent semaphore.layout semaphore.tryTakeOut }
 semFn takeBlocking =
-    record { call = sem.take; asks = true; room = nobody; wrote = nobody; Contract = λ u. Silent semaphore.layout (semaphore.takeOut (u .id) (u .priority) (u .state)) u }
+    record {
+      call = sem.take;
+      asks = true;
+      room = nobody;
+      wrote = nobody;
+      Contract = λ u. Silent semaphore.layout (semaphore.takeOut (u .id) (u .priority) (u .state)) u;
+    }
 semFn reset = record { call = sem.reset; asks = false; room = everyone; wrote = everyone; Contract = InSlice semaphore.layout semaphore.resetOut }
 
 pub data MutexFn : Type 0 where
@@ -122,7 +128,13 @@ pub data MutexFn : Type 0 where
 abbrev pub mutexFn : MutexFn → Function mutex-kind
 mutexFn tryLock = record { call = mutex.tryLock; asks = false; room = nobody; wrote = nobody; Contract = λ u. Silent lock.layout (lock.tryLockOut (u .id)) u }
 mutexFn lockBlocking =
-    record { call = mutex.lock; asks = true; room = nobody; wrote = nobody; Contract = λ u. Silent lock.layout (lock.lockOut (u .id) (u .priority) (u .state)) u }
+    record {
+      call = mutex.lock;
+      asks = true;
+      room = nobody;
+      wrote = nobody;
+      Contract = λ u. Silent lock.layout (lock.lockOut (u .id) (u .priority) (u .state)) u;
+    }
 mutexFn unlock = record { call = mutex.unlock; asks = false; room = single; wrote = onlyAt 2; Contract = λ u. InWord lock.layout (lock.unlockOut (u .id)) u }
 
 pub data CondvarFn : Type 0 where
@@ -130,7 +142,8 @@ pub data CondvarFn : Type 0 where
 
 abbrev pub condvarFn : CondvarFn → Function condvar-kind
 condvarFn signal = record { call = condvar.signal; asks = false; room = single; wrote = everyone; Contract = InWord condition.layout condition.signalOut }
-condvarFn broadcast = record { call = condvar.broadcast; asks = false; room = everyone; wrote = everyone; Contract = InSlice condition.layout condition.broadcastOut }
+condvarFn broadcast =
+    record { call = condvar.broadcast; asks = false; room = everyone; wrote = everyone; Contract = InSlice condition.layout condition.broadcastOut }
 
 pub data FutexFn : Type 0 where
   wait : (expected : ℕ) → FutexFn
@@ -144,7 +157,13 @@ wakeRoom false n = 1
 
 abbrev pub futexFn : FutexFn → Function futex-kind
 futexFn (wait x) =
-    record { call = futex.wait x; asks = true; room = nobody; wrote = nobody; Contract = λ u. Silent value.layout (value.waitOut x (u .id) (u .priority) (u .state)) u }
+    record {
+      call = futex.wait x;
+      asks = true;
+      room = nobody;
+      wrote = nobody;
+      Contract = λ u. Silent value.layout (value.waitOut x (u .id) (u .priority) (u .state)) u;
+    }
 futexFn (wake all) =
     record { call = value.wakeCall all; asks = false; room = wakeRoom all; wrote = everyone; Contract = InSlice value.layout (value.wakeOut all) }
 futexFn (valSet x) = record { call = futex.set x; asks = false; room = nobody; wrote = nobody; Contract = Silent value.layout (value.setOut x) }

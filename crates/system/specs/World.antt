@@ -11,7 +11,8 @@ use Rattle.wait_queue.specs.Turn.{remove}
 use Rattle.wait_queue.specs.Post as queue
 use Rattle.kind.specs.Kind.{Kind}
 use Rattle.kind.specs.Object.{Layout, Started}
-use Rattle.system.specs.System.{State, ready, vacant, object, waiting, Sys, Woken, Op, invoke, both, dispatch, yield, expire, spawn, create, Answer, reply, Reply, step, after}
+use Rattle.system.specs.System.{State, ready, vacant, object, waiting, Sys, Woken, Op, invoke, both, dispatch, yield, expire, spawn, create}
+use Rattle.system.specs.System.{Answer, reply, Reply, step, after}
 use Rattle.system.specs.Part.{Part}
 use Rattle.system.specs.Rules.{Fine}
 use Rattle.system.specs.Functions.{Memory, Use, Function, Double, told}
@@ -59,6 +60,9 @@ pub record Event (K : Kind) : Type 0 where
 -- a function's use, on the objects l; and what nobody lends a place for
 abbrev pub seen : {K : Kind} → Op K → (ℕ → ℕ) → Use → List ℕ → ℕ → (State → State) → Event K
 seen x c u l i f = record { op = x; answer = reply (u .answer); lent = u .lent; filled = u .filled; told = told c u; on = l; by = i; becomes = f }
+
+abbrev pub used : {A K : Kind} → ℕ → ℕ → K .Call → Function A → Use → Event K
+used i o k F u = seen (invoke i o k) (F .wrote) u (o ∷ []) i (fate (F .asks) o (u .answer))
 
 abbrev pub quiet : {K : Kind} → Op K → Answer → List ℕ → ℕ → (State → State) → Event K
 quiet x a l i f = record { op = x; answer = a; lent = []; filled = []; told = []; on = l; by = i; becomes = f }
@@ -133,7 +137,7 @@ module _ {K : Kind} (C : Library K) (sort : ℕ → C .Sort) where
     -- the function f was called, by the thread i, on the object o, which is there
     calls : (i o : ℕ) (n : K .Num) (f : class o .code .Fn) (u : Use) → s .slot o ≡ object n → u .before ≡ w o → w' o ≡ u .after
         → Caller (class o .code .function f) s i o u → class o .code .function f .Contract u
-        → Happens s w w' (seen (invoke i o (class o .part .call (class o .code .function f .call))) (class o .code .function f .wrote) u (o ∷ []) i (fate (class o .code .function f .asks) o (u .answer)))
+        → Happens s w w' (used i o (class o .part .call (class o .code .function f .call)) (class o .code .function f) u)
     -- the function t on two objects, which are there and are two
     pairs : (i a b : ℕ) (m n : K .Num) (t : C .Two) (u : Use) → sort a ≡ C .first t → sort b ≡ C .second t → (a ≡ b → ⊥)
         → s .slot a ≡ object m → s .slot b ≡ object n → u .before ≡ w a → w' a ≡ u .after → Truthful s i u
