@@ -70,8 +70,8 @@ unlocks-within n w q d x =
     within single (onlyAt 2) q (held (n .owner)) _ _
     (within single (onlyAt 2) q (owns w (n .owner)) _ _ (within single (onlyAt 2) q (ltb 1 (n .count)) _ _ x (passes-within q)) refl) refl
 
-gives-within : (n : Sem) (q : List ℕ) (i : ℕ) → Within single (onlyAt 0) q (sem.decide n plain (map ident q) i sem.give)
-gives-within n [] i = within single (onlyAt 0) [] (ltb (n .count) (n .limit)) _ _ refl refl
+gives-within : (n : Sem) (q : List ℕ) (i : ℕ) → Within single (semFn give .wrote) q (sem.decide n plain (map ident q) i sem.give)
+gives-within n [] i = within single (semFn give .wrote) [] (ltb (n .count) (n .limit)) _ _ refl refl
 gives-within n (x ∷ q) i = (omega arith, refl, λ t. refl)
 
 gives-unparked : (n : Sem) (q : List ℕ) → Unparked (sem.decide n plain q 0 sem.give)
@@ -92,7 +92,7 @@ module _ {K : Kind} (law : Lawful K) where
   pub sem-links : (P : Part sem-kind K) → Fits P → (f : SemFn) → Links P semaphore.layout (semFn f)
   sem-links P fits give s g i o u is c d =
       let n = semaphore.layout .num (u .before .header) in
-      by-word law P fits semaphore.layout sem.give single (onlyAt 0) s g i o u is (gives-within n (s .queue o) i) 0 (c .runs refl) refl
+      by-word law P fits semaphore.layout sem.give single (semFn give .wrote) s g i o u is (gives-within n (s .queue o) i) 0 (c .runs refl) refl
       (gives-unparked n (map ident (s .queue o))) (omega arith) d
   sem-links P fits tryTake s g i o u is c d =
       let n = semaphore.layout .num (u .before .header) in

@@ -14,7 +14,8 @@ use Rattle.system.specs.Part.{Part, whole}
 use Rattle.system.specs.Sum.{Member, _⊕_, inLeft, inRight}
 use Rattle.system.specs.Rtos.{rtos}
 use Rattle.system.specs.Link.{Links}
-use Rattle.system.specs.World.{Code, Histories}
+use Rattle.system.specs.World.{Code}
+use Rattle.system.specs.History.{Histories}
 use Rattle.system.specs.Library.{Stock, only, _⊞_, semCode, mutexCode, condvarCode, futexCode, stock, aLock, aCondition, library}
 use Rattle.system.proofs.Sheets.{Fits, whole-fits, left-fits, right-fits}
 use Rattle.system.proofs.Rtos.{rtos-lawful}

@@ -9,7 +9,8 @@ use Rattle.kind.specs.Kind.{Kind}
 use Rattle.system.specs.System.{object, Sys, Woken, Reply}
 use Rattle.system.specs.Functions.{Memory}
 use Rattle.system.specs.Link.{read, Handed, Readies}
-use Rattle.system.specs.World.{Library, World, Event, Agrees, Elsewhere, Holds, Shows}
+use Rattle.system.specs.World.{Library, World, Event, Agrees, Elsewhere}
+use Rattle.system.specs.History.{Holds, Shows}
 use Rattle.system.proofs.Link.{is-kept}
 use Rattle.system.proofs.Elsewhere.{Kept}
 

@@ -14,7 +14,8 @@ use Rattle.system.specs.System.{absent, running, ready, vacant, Sys, inv
 use Rattle.system.specs.Rtos.{rtos, aSem, semCall}
 use Rattle.system.specs.Functions.{Memory, Use, nobody, onlyAt, give, takeBlocking}
 use Rattle.system.specs.Link.{fate}
-use Rattle.system.specs.World.{World, Event, seen, quiet, Elsewhere, calls, inits, moves, Ran, begun, then, Follows}
+use Rattle.system.specs.World.{World, Event, seen, quiet, Elsewhere}
+use Rattle.system.specs.History.{calls, inits, moves, Ran, begun, then, Follows}
 use Rattle.system.specs.Library.{stock, aSemaphore, library}
 use Rattle.system.proofs.Steps.{always}
 use Rattle.system.proofs.Rtos.{rtos-lawful}

@@ -14,8 +14,8 @@ use Rattle.system.specs.System.{State, ready, Sys, expired, both, expire
 use Rattle.system.specs.Rules.{Fine}
 use Rattle.system.specs.Functions.{Memory}
 use Rattle.system.specs.Link.{Is, Readies, Links, LinksBoth, Turns}
-use Rattle.system.specs.World.{Library, World, Event, quiet, actor, Noted, opened, noted, ops, Agrees, Elsewhere, Holds, Shows, Happens, calls}
-use Rattle.system.specs.World.{pairs, inits, removes, moves, begun, then, Histories}
+use Rattle.system.specs.World.{Library, World, Event, quiet, actor, Noted, opened, noted, ops, Agrees, Elsewhere}
+use Rattle.system.specs.History.{Holds, Shows, Happens, calls, pairs, inits, removes, moves, begun, then, Histories}
 use Rattle.system.proofs.Steps.{step-fine}
 use Rattle.system.proofs.Sheets.{Fits}
 use Rattle.system.proofs.Inits.{makes, expires}

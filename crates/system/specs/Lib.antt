@@ -17,4 +17,5 @@ pub mod Theorems
 pub mod Functions
 pub mod Link
 pub mod World
+pub mod History
 pub mod Library
