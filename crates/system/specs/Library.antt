@@ -60,7 +60,7 @@ futexCode = only (record { layout = value.layout; Fn = FutexFn; function = futex
 abbrev pub stock : Stock members
 stock = semCode ⊞ mutexCode ⊞ condvarCode ⊞ futexCode
 
--- the sorts of objects
+-- sorts of objects
 abbrev pub aSemaphore : stock .Sort
 aSemaphore = inl tt
 
@@ -69,9 +69,6 @@ aLock = inr (inl tt)
 
 abbrev pub aCondition : stock .Sort
 aCondition = inr (inr (inl tt))
-
-abbrev pub aWord : stock .Sort
-aWord = inr (inr (inr tt))
 
 abbrev pub library : Library rtos
 library =
