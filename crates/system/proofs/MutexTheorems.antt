@@ -24,7 +24,7 @@ use Rattle.system.specs.Theorems.{Owns, Mutexes}
 use Rattle.system.proofs.Steps.{always}
 use Rattle.system.proofs.Same.{under, alike}
 use Rattle.system.proofs.Lives.{owed}
-use Rattle.system.proofs.Callers.{refused, done-runs}
+use Rattle.system.proofs.Runners.{refused, done-runs}
 use Rattle.system.proofs.Sheets.{Fits}
 use Rattle.system.proofs.MutexSheet.{mutex-keeps}
 use Rattle.system.proofs.SemTheorems.{waits-not}
@@ -32,7 +32,7 @@ use Rattle.system.proofs.Bests.{held-of}
 
 module _ {K : Kind} (P : Part mutex-kind K) (h : Fits P) (s : Sys K) (g : Fine s) (o : ℕ) (m : Mutex) (e : s .slot o ≡ object (P .num m)) where
   fine : formed m (any (s .queue o)) ≡ true
-  fine = sym (h .forms m (any (s .queue o))) ∙ g .formed o (P .num m) e
+  fine = sym (h .formed m (any (s .queue o))) ∙ g .formed o (P .num m) e
 
   locked : (i : ℕ) → m .owner ≡ thread i → 0 < m .count
   locked i z = ltb-true 0 (m .count) (rw z at fine)

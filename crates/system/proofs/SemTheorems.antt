@@ -24,7 +24,7 @@ use Rattle.system.specs.Run.{run}
 use Rattle.system.specs.Theorems.{Semaphores}
 use Rattle.system.proofs.Steps.{always}
 use Rattle.system.proofs.Same.{under}
-use Rattle.system.proofs.Callers.{refused, done-runs}
+use Rattle.system.proofs.Runners.{refused, done-runs}
 use Rattle.system.proofs.Sheets.{Fits}
 use Rattle.system.proofs.SemSheet.{sem-keeps}
 
@@ -33,7 +33,7 @@ waits-not h = absurd (let z : pos 1 ≡ ok = cc in let y : _≡_ {A = ℕ} 0 1 =
 
 module _ {K : Kind} (P : Part sem-kind K) (h : Fits P) (s : Sys K) (g : Fine s) (o : ℕ) (n : Sem) (e : s .slot o ≡ object (P .num n)) where
   fine : law.Fine (n .count) (n .limit) (any (s .queue o))
-  fine = law.is-fine (n .count) (n .limit) (any (s .queue o)) (sym (h .forms n (any (s .queue o))) ∙ g .formed o (P .num n) e)
+  fine = law.is-fine (n .count) (n .limit) (any (s .queue o)) (sym (h .formed n (any (s .queue o))) ∙ g .formed o (P .num n) e)
 
   none : 0 < n .count → s .queue o ≡ []
   none c = none-any (s .queue o) (go (any (s .queue o)) refl)

@@ -20,7 +20,10 @@ use Rattle.system.proofs.Bests.{InTurn, Turnwise}
 pub record Fits {A K : Kind} (P : Part A K) : Type 0 where
   pub decides : (n : A .Num) (v : ℕ → K .Wish) (q : List ℕ) (w : ℕ) (k : A .Call)
       → K .decide (P .num n) v q w (P .call k) ≡ mapped (P .num) (P .wish) (A .decide n (λ t. P .seen (v t)) q w k)
-  pub forms : (n : A .Num) (w : Bool) → K .formed (P .num n) w ≡ A .formed n w
+  -- its numbers are as they should be, and can be made, where the kind says so
+  pub formed : (n : A .Num) (w : Bool) → K .formed (P .num n) w ≡ A .formed n w
+  pub new : (n : A .Num) → K .new (P .num n) ≡ A .new n
+  -- who waits there waits with the kind's wish
   pub blocks : (n : A .Num) (t : ℕ) (x : K .Wish) → K .Blocked (P .num n) t x → A .Blocked n t (P .seen x)
 
 -- verdicts in words of the whole
@@ -44,7 +47,7 @@ mapped-turn f g (allow n (park x) r) h = tt
 mapped-turn f g (allow n (wake p w) r) h = h
 
 pub whole-fits : (K : Kind) → Fits (whole K)
-whole-fits K = record { decides = λ n v q w k. mapped-same (K .decide n v q w k); forms = λ n w. refl; blocks = λ n t x b. b }
+whole-fits K = record { decides = λ n v q w k. mapped-same (K .decide n v q w k); formed = λ n w. refl; new = λ n. refl; blocks = λ n t x b. b }
 
 module _ (A B : Member) {K : Kind} (P : Part ((A ⊕ B) .kind) K) (h : Fits P) where
   pub left-fits : Fits (inLeft A B P)
@@ -53,7 +56,8 @@ module _ (A B : Member) {K : Kind} (P : Part ((A ⊕ B) .kind) K) (h : Fits P) w
         decides =
             λ n v q w k.
             h .decides (inl n) v q w (inl k) ∙ mapped-twice inl (P .num) inl (P .wish) (A .kind .decide n (λ t. onLeft (A .idle) (P .seen (v t))) q w k);
-        forms = λ n w. h .forms (inl n) w;
+        formed = λ n w. h .formed (inl n) w;
+        new = λ n. h .new (inl n);
         blocks = λ n t x b. h .blocks (inl n) t x b;
       }
 
@@ -63,7 +67,8 @@ module _ (A B : Member) {K : Kind} (P : Part ((A ⊕ B) .kind) K) (h : Fits P) w
         decides =
             λ n v q w k.
             h .decides (inr n) v q w (inr k) ∙ mapped-twice inr (P .num) inr (P .wish) (B .kind .decide n (λ t. onRight (B .idle) (P .seen (v t))) q w k);
-        forms = λ n w. h .forms (inr n) w;
+        formed = λ n w. h .formed (inr n) w;
+        new = λ n. h .new (inr n);
         blocks = λ n t x b. h .blocks (inr n) t x b;
       }
 
@@ -74,7 +79,8 @@ within-fits {A} P Q g h =
           λ n v q w k.
           h .decides (P .num n) v q w (P .call k) ∙ ap (mapped (Q .num) (Q .wish)) (g .decides n (λ t. Q .seen (v t)) q w k)
           ∙ mapped-twice (P .num) (Q .num) (P .wish) (Q .wish) (A .decide n (λ t. P .seen (Q .seen (v t))) q w k);
-      forms = λ n w. h .forms (P .num n) w ∙ g .forms n w;
+      formed = λ n w. h .formed (P .num n) w ∙ g .formed n w;
+      new = λ n. h .new (P .num n) ∙ g .new n;
       blocks = λ n t x b. g .blocks n t (Q .seen x) (h .blocks (P .num n) t x b);
     }
 

@@ -1,37 +1,51 @@
--- The words that a call hands out are those of the threads that it makes ready. Assumes nothing.
-use mathlib.Core.Path.{_≡_, refl, sym, ap, subst, _∙_}
+-- The words that a call hands out are those of the threads that the step wakes, as many as its answer says. Assumes nothing.
+use mathlib.Core.Path.{_≡_, refl, sym, subst, _∙_}
 use mathlib.Core.Bool.{Bool, true, false, cond}
 use mathlib.Core.List.{List, [], _∷_, map}
-use Prim.Native.Nat.{ℕ}
+use Prim.Native.Nat.{ℕ, _≤_}
 use native.Mathlib.Omega.{arith}
-use lib.Dec.{eqb, ltb}
+use lib.Dec.{ltb}
 use lib.IntN.{ℤ, pos, negsuc}
-use lib.ListN.{length}
-use borrow.Author.Tests.{eq-eqb, ne-eqb}
-use Rattle.seq.specs.Word.{word}
-use Rattle.seq.specs.List.{All}
+use lib.ListN.{length, length-map}
+use Rattle.seq.specs.Word as half
 use Rattle.thread.specs.Code.{enomem, ebusy}
 use Rattle.thread.specs.Caller.{callerCode}
 use Rattle.wait_queue.specs.Queue.{maxWaiters, entry, ident, holds, joined}
 use Rattle.wait_queue.specs.Queue as queue
 use Rattle.wait_queue.specs.Turn.{refuse, waits, parked}
 use Rattle.wait_queue.proofs.Answers.{ident-entry}
-use Rattle.kind.specs.Verdict.{Pick, gone, keep, park, wake, Verdict, deny, allow}
+use Rattle.wait_queue.proofs.Insertion.{prio-entry}
+use Rattle.kind.specs.Verdict.{gone, keep, park, wake, Verdict, deny, allow}
 use Rattle.kind.specs.Kind.{Kind}
 use Rattle.kind.specs.Object.{Out, thread, carried}
-use Rattle.condvar.specs.Post.{Allowed}
-use Rattle.system.specs.System.{running, ready, number, object, Sys, unless, serve, outcome, verdict, visited, called}
+use Rattle.system.specs.Sum.{mapped}
+use Rattle.system.specs.System.{number, Slot, object, Sys, Woken, deed, woken, unless, outcome, verdict, visited, called}
 use Rattle.system.specs.Rules.{Fine}
-use Rattle.system.specs.Link.{Readied, HandsOut}
+use Rattle.system.specs.Functions.{heard}
+use Rattle.system.specs.Link.{signed, read, word}
 use Rattle.system.proofs.Calls.{barred, granted}
 
--- the words of the woken threads
-told : (r : ℤ) (x : ℕ) → ident (queue.woken r x) ≡ ident x
-told r x = ident-entry (word r) (ident x) (omega arith)
+-- a verdict on an object at which q wait: it wakes m n at most where n wait, by an answer that is no refusal, as many as c says of the answer,
+-- and each with a result that its word tells
+abbrev pub Within : {N W : Type 0} → (ℕ → ℕ) → (ℕ → ℕ) → List ℕ → Verdict N W → Type 0
+Within m c q (deny r) = heard c r ≡ 0
+Within m c q (allow n keep r) = heard c r ≡ 0
+Within m c q (allow n (park x) r) = c 1 ≡ 0
+Within m c q (allow n (wake p f) (pos r)) =
+    (length (gone ident p q) ≤ m (length q)) × (length (gone ident p q) ≡ c r) × ((t : ℕ) → signed (half.word (f t)) ≡ f t)
+Within m c q (allow n (wake p f) (negsuc r)) = ⊥
 
-told-holds : (f : ℕ → ℤ) (t : ℕ) (l : List ℕ) → holds t (map (λ x. queue.woken (f (ident x)) x) l) ≡ holds t l
-told-holds f t [] = refl
-told-holds f t (x ∷ l) = rw (told (f (ident x)) x, told-holds f t l)
+module _ (m c : ℕ → ℕ) (q : List ℕ) where
+  pub within : {N W : Type 0} (b : Bool) (d e : Verdict N W) → Within m c q d → Within m c q e → Within m c q (cond b d e)
+  within true d e x y = x
+  within false d e x y = y
+
+  pub within-part : {M N X Y : Type 0} (f : M → N) (g : X → Y) (d : Verdict M X) → Within m c q d → Within m c q (mapped f g d)
+  within-part f g (deny r) x = x
+  within-part f g (allow n keep r) x = x
+  within-part f g (allow n (park y) r) x = x
+  within-part f g (allow n (wake p h) (pos r)) x = x
+  within-part f g (allow n (wake p h) (negsuc r)) x = absurd x
 
 -- who waits wakes nobody
 pub parked-none : (w : ℕ) (q : List ℕ) → parked w q .woken ≡ []
@@ -42,73 +56,109 @@ parked-none w q = go (holds (ident w) q) (ltb (length q) maxWaiters)
     go false true = refl
     go false false = refl
 
+parked-heard : (c : ℕ → ℕ) (w : ℕ) (q : List ℕ) → c 1 ≡ 0 → heard c (parked w q .code) ≡ 0
+parked-heard c w q x = go (holds (ident w) q) (ltb (length q) maxWaiters)
+  where
+    go : (a b : Bool) → heard c (cond a (refuse ebusy q) (cond b (record { code = waits; queue = joined w q; woken = [] }) (refuse enomem q)) .code) ≡ 0
+    go true b = refl
+    go false true = x
+    go false false = refl
+
+words : (f : ℕ → ℤ) (l : List ℕ) → map (λ x. queue.woken (f (ident x)) x) l ≡ map word (map (λ x. record { thread = ident x; result = f (ident x) }) l)
+words f [] = refl
+words f (x ∷ l) =
+    let e : ident (ident x) ≡ ident x = omega arith in
+    rw (words f l, e)
+
+reads-back : (f : ℕ → ℤ) → ((t : ℕ) → signed (half.word (f t)) ≡ f t) → (l : List ℕ)
+    → map read (map word (map (λ x. record { thread = ident x; result = f (ident x) }) l)) ≡ map (λ x. record { thread = ident x; result = f (ident x) }) l
+reads-back f h [] = refl
+reads-back f h (x ∷ l) =
+    let a : ident (entry (half.word (f (ident x))) (ident (ident x))) ≡ ident (ident x) = ident-entry (half.word (f (ident x))) (ident (ident x))
+    (omega arith) in
+    let b : half.high (entry (half.word (f (ident x))) (ident (ident x))) ≡ half.word (f (ident x)) = prio-entry (half.word (f (ident x))) (ident (ident x))
+    (omega arith) in
+    let c : ident (ident x) ≡ ident x = omega arith in
+    rw (reads-back f h l, a, b, c, h (ident x)) refl
+
+unless-none : (z : ℤ) → unless {A = List Woken} z [] [] ≡ []
+unless-none (pos c) = refl
+unless-none (negsuc c) = refl
+
 module _ {K : Kind} (s : Sys K) (g : Fine s) (i o : ℕ) (k : K .Call) (n : K .Num) (h : s .slot o ≡ object n) where
   abbrev q : List ℕ
   q = s .queue o
 
-  module _ (u : Out (K .Num)) (m : K .Num) (p : Pick) (f : ℕ → ℤ) (r : ℤ) where
-    abbrev then : Sys K
-    then = serve s i o (allow m (wake p f) r) u
+  abbrev l : List Woken
+  l = called s i o k .2
 
-    awake : (l : List ℕ) → ((t : ℕ) → holds t l ≡ true → holds t (gone ident p q) ≡ true) → All (Readied then) (map (λ x. queue.woken (f (ident x)) x) l)
-    awake [] a = tt
-    awake (x ∷ l) a =
-        let y : holds (ident x) (gone ident p q) ≡ true = a (ident x) (rw (eq-eqb (ident x) (ident x) refl) refl) in (
-          record {
-            result = f (ident x);
-            state = rw (told (f (ident x)) x, y);
-            word = rw (told (f (ident x)) x) refl;
-          },
-          awake l (λ t z. a t (go (eqb (ident x) t) t z)),
-        )
-      where
-        go : (b : Bool) (t : ℕ) → holds t l ≡ true → cond b true (holds t l) ≡ true
-        go true t z = refl
-        go false t z = z
+  -- as it is carried out
+  abbrev out : Verdict (K .Num) (K .Wish) → Out (K .Num)
+  out d = carried (thread i (s .prio i) 1) d n q
 
-  by-verdict : (d : Verdict (K .Num) (K .Wish)) (u : Out (K .Num)) → HandsOut s i (serve s i o d u) (carried (thread i (s .prio i) 1) d n q .turn .woken)
-  by-verdict (deny r) u = record { ready = tt; others = λ t z x. refl }
-  by-verdict (allow m keep r) u = record { ready = tt; others = λ t z x. refl }
-  by-verdict (allow m (park y) r) u =
-      record { ready = rw (parked-none (entry (s .prio i) i) q) tt; others = λ t z x. rw (ne-eqb i t x) }
-  by-verdict (allow m (wake p f) r) u =
-      record {
-        ready = awake u m p f r (gone ident p q) (λ t z. z);
-        others = λ t z x. rw (sym (told-holds f t (gone ident p q)) ∙ z);
-      }
+  abbrev awake : ℤ → Verdict (K .Num) (K .Wish) → List Woken
+  awake z d = unless z [] (woken (deed d) q)
 
-  pub call-wakes : Allowed (outcome s i o k n .turn .code) (HandsOut s i (called s i o k .0) (outcome s i o k n .turn .woken))
-  call-wakes = rw h (go (callerCode (s .prio i) (number (s .state i))) refl)
-    where
-      by : (z : ℤ) (d : Verdict (K .Num) (K .Wish)) (u : Out (K .Num)) (w : List ℕ) → HandsOut s i (serve s i o d u) w → Allowed z (HandsOut s i (unless z s (serve s i o d u)) w)
-      by (pos c) d u w x = x
-      by (negsuc c) d u w x = tt
+  module _ (m c : ℕ → ℕ) where
+    told : (d : Verdict (K .Num) (K .Wish)) → Within m c q d → out d .turn .woken ≡ map word (awake (out d .turn .code) d)
+    told (deny r) x = rw (unless-none r) refl
+    told (allow a keep r) x = rw (unless-none r) refl
+    told (allow a (park y) r) x = parked-none (entry (s .prio i) i) q ∙ rw (unless-none (parked (entry (s .prio i) i) q .code)) refl
+    told (allow a (wake p f) (pos r)) x = words f (gone ident p q)
+    told (allow a (wake p f) (negsuc r)) x = absurd x
 
-      go : (z : ℤ) → callerCode (s .prio i) (number (s .state i)) ≡ z
-          → Allowed (outcome s i o k n .turn .code) (HandsOut s i (visited (object n) s i o k .0) (outcome s i o k n .turn .woken))
-      go (negsuc c) z = rw (barred s i o k n (g .formed o n h) c z) tt
-      go (pos c) z =
-          by (outcome s i o k n .turn .code) (verdict s i o k n) (outcome s i o k n) (outcome s i o k n .turn .woken)
-          (subst (λ (w : List ℕ). HandsOut s i (serve s i o (verdict s i o k n) (outcome s i o k n)) w) (sym (ap (λ (y : Out (K .Num)). y .turn .woken) (granted s i o k n (g .formed o n h) c z)))
-          (by-verdict (verdict s i o k n) (outcome s i o k n)))
+    few : (d : Verdict (K .Num) (K .Wish)) (z : ℤ) → Within m c q d → length (awake z d) ≤ m (length q)
+    few d (negsuc r) x = omega arith
+    few (deny r) (pos z) x = omega arith
+    few (allow a keep r) (pos z) x = omega arith
+    few (allow a (park y) r) (pos z) x = omega arith
+    few (allow a (wake p f) (pos r)) (pos z) x =
+        let e : length (woken {W = K .Wish} (wake p f) q) ≡ length (gone ident p q) = length-map (gone ident p q) _ in
+        omega (arith, e, x .0)
+    few (allow a (wake p f) (negsuc r)) (pos z) x = absurd x
 
--- one call after another, of which the second wakes nobody, by a thread that still runs between them
-pub wakes-on : {K : Kind} (s t u : Sys K) (i : ℕ) (y : List ℕ) → t .state i ≡ running → HandsOut s i t y → HandsOut t i u [] → HandsOut s i u y
-wakes-on {K} s t u i y run a b =
-    record { ready = all y (a .ready); others = λ x z n. b .others x refl n ∙ a .others x z n }
-  where
-    off : (x : ℕ) (r : ℤ) → t .state x ≡ ready r → i ≡ x → ⊥
-    off x r z e =
-        let v : running ≡ ready r = sym run ∙ ap (λ (l : ℕ). t .state l) e ∙ z in
-        absurd (let l : _≡_ {A = ℕ} 0 1 = cc in omega arith)
+    counted : (d : Verdict (K .Num) (K .Wish)) → Within m c q d → length (awake (out d .turn .code) d) ≡ heard c (out d .turn .code)
+    counted (deny r) x = rw (unless-none r) (sym x)
+    counted (allow a keep r) x = rw (unless-none r) (sym x)
+    counted (allow a (park y) r) x = rw (unless-none (parked (entry (s .prio i) i) q .code)) (sym (parked-heard c (entry (s .prio i) i) q x))
+    counted (allow a (wake p f) (pos r)) x = length-map (gone ident p q) _ ∙ x .1
+    counted (allow a (wake p f) (negsuc r)) x = absurd x
 
-    all : (l : List ℕ) → All (Readied t) l → All (Readied u) l
-    all [] z = tt
-    all (x ∷ l) z = (
-      record {
-        result = z .0 .result;
-        state = b .others (ident x) refl (off (ident x) (z .0 .result) (z .0 .state)) ∙ z .0 .state;
-        word = z .0 .word;
-      },
-      all l (z .1),
-    )
+    read-again : (d : Verdict (K .Num) (K .Wish)) (z : ℤ) → Within m c q d → map read (map word (awake z d)) ≡ awake z d
+    read-again d (negsuc r) x = refl
+    read-again (deny r) (pos z) x = refl
+    read-again (allow a keep r) (pos z) x = refl
+    read-again (allow a (park y) r) (pos z) x = refl
+    read-again (allow a (wake p f) (pos r)) (pos z) x = reads-back f (x .2) (gone ident p q)
+    read-again (allow a (wake p f) (negsuc r)) (pos z) x = absurd x
+
+    -- the words of the outcome are those of the step, not too many, and as many as the answer says
+    module _ (x : Within m c q (verdict s i o k n)) where
+      pub handed-out : outcome s i o k n .turn .woken ≡ map word l
+      handed-out =
+          subst (λ (y : Slot (K .Num)). outcome s i o k n .turn .woken ≡ map word (visited y s i o k .2)) (sym h)
+          (go (callerCode (s .prio i) (number (s .state i))) refl)
+        where
+          go : (z : ℤ) → callerCode (s .prio i) (number (s .state i)) ≡ z
+              → outcome s i o k n .turn .woken ≡ map word (awake (outcome s i o k n .turn .code) (verdict s i o k n))
+          go (negsuc r) z = rw (barred s i o k n (g .formed o n h) r z) refl
+          go (pos r) z = rw (granted s i o k n (g .formed o n h) r z) (told (verdict s i o k n) x)
+
+      pub handed-few : length l ≤ m (length q)
+      handed-few =
+          subst (λ (y : Slot (K .Num)). length (visited y s i o k .2) ≤ m (length q)) (sym h) (few (verdict s i o k n) (outcome s i o k n .turn .code) x)
+
+      pub handed-read : map read (map word l) ≡ l
+      handed-read =
+          subst (λ (y : Slot (K .Num)). map read (map word (visited y s i o k .2)) ≡ visited y s i o k .2) (sym h)
+          (read-again (verdict s i o k n) (outcome s i o k n .turn .code) x)
+
+      pub handed-count : length l ≡ heard c (called s i o k .1)
+      handed-count =
+          subst (λ (y : Slot (K .Num)). length (visited y s i o k .2) ≡ heard c (visited y s i o k .1)) (sym h)
+          (go (callerCode (s .prio i) (number (s .state i))) refl)
+        where
+          go : (z : ℤ) → callerCode (s .prio i) (number (s .state i)) ≡ z
+              → length (awake (outcome s i o k n .turn .code) (verdict s i o k n)) ≡ heard c (outcome s i o k n .turn .code)
+          go (negsuc r) z = rw (barred s i o k n (g .formed o n h) r z) refl
+          go (pos r) z = rw (granted s i o k n (g .formed o n h) r z) (counted (verdict s i o k n) x)

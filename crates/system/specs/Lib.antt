@@ -15,4 +15,8 @@ pub mod Rtos
 pub mod Laws
 pub mod Determined
 pub mod Theorems
+pub mod Functions
 pub mod Link
+pub mod World
+pub mod History
+pub mod Library

@@ -1,0 +1,88 @@
+-- Who is woken by a call is made ready, and no other thread changes but the caller; and by one call after another. Assumes nothing.
+use mathlib.Core.Path.{_≡_, refl, sym, subst, _∙_, ap}
+use mathlib.Core.Bool.{Bool, true, false, cond}
+use mathlib.Core.List.{List, [], _∷_, map, _++_, append-nil}
+use Prim.Native.Nat.{ℕ, _≤_}
+use native.Mathlib.Omega.{arith}
+use lib.Dec.{eqb}
+use lib.IntN.{ℤ, pos, negsuc}
+use lib.ListN.{length}
+use borrow.Author.Tests.{eq-eqb, ne-eqb}
+use Rattle.seq.specs.List.{All}
+use Rattle.wait_queue.specs.Queue.{ident, holds}
+use Rattle.kind.specs.Verdict.{Pick, gone, keep, park, wake, Verdict, deny, allow}
+use Rattle.kind.specs.Kind.{Kind}
+use Rattle.system.specs.System.{ready, Slot, object, Sys, Woken, deed, woken, unless, serve, outcome, verdict, visited, called, running}
+use Rattle.system.specs.Link.{read, word, Readies}
+use Rattle.wait_queue.specs.Post.{Told}
+
+module _ {K : Kind} (s : Sys K) (i o : ℕ) (k : K .Call) (n : K .Num) (h : s .slot o ≡ object n) where
+  abbrev q : List ℕ
+  q = s .queue o
+
+  off : (t : ℕ) (f : ℕ → ℤ) (y : List ℕ) → All (λ (w : Woken). w .thread ≡ t → ⊥) (map (λ x. record { thread = ident x; result = f (ident x) }) y)
+      → holds t y ≡ false
+  off t f [] a = refl
+  off t f (x ∷ y) a = rw (ne-eqb (ident x) t (a .0), off t f y (a .1))
+
+  -- who is woken is made ready, and no other changes but the caller
+  pub call-readies : Readies s i (called s i o k .2) (called s i o k .0)
+  call-readies =
+      subst (λ (y : Slot (K .Num)). Readies s i (visited y s i o k .2) (visited y s i o k .0)) (sym h) (go (outcome s i o k n .turn .code) (verdict s i o k n))
+    where
+      roused : (m : K .Num) (p : Pick) (f : ℕ → ℤ) (r : ℤ) (y : List ℕ) → ((t : ℕ) → holds t y ≡ true → holds t (gone ident p q) ≡ true)
+          → All (λ (w : Woken). serve s i o (allow m (wake p f) r) (outcome s i o k n) .state (w .thread) ≡ ready (w .result))
+          (map (λ x. record { thread = ident x; result = f (ident x) }) y)
+      roused m p f r [] a = tt
+      roused m p f r (x ∷ y) a =
+          let e : holds (ident x) (gone ident p q) ≡ true = a (ident x) (rw (eq-eqb (ident x) (ident x) refl) refl) in
+          (rw e, roused m p f r y (λ t z. a t (by (eqb (ident x) t) t z)))
+        where
+          by : (b : Bool) (t : ℕ) → holds t y ≡ true → cond b true (holds t y) ≡ true
+          by true t z = refl
+          by false t z = z
+
+      go : (z : ℤ) (d : Verdict (K .Num) (K .Wish)) → Readies s i (unless z [] (woken (deed d) q)) (unless z s (serve s i o d (outcome s i o k n)))
+      go (negsuc c) d = record { ready = tt; others = λ t a x. refl }
+      go (pos c) (deny r) = record { ready = tt; others = λ t a x. refl }
+      go (pos c) (allow m keep r) = record { ready = tt; others = λ t a x. refl }
+      go (pos c) (allow m (park y) r) = record { ready = tt; others = λ t a x. rw (ne-eqb i t x) }
+      go (pos c) (allow m (wake p f) r) =
+          record { ready = roused m p f r (gone ident p q) (λ t z. z); others = λ t a x. rw (off t f (gone ident p q) a) }
+
+-- one call after another, of which the second wakes nobody, by a thread that still runs between them
+pub readies-on : {K : Kind} (s t u : Sys K) (i : ℕ) (l m : List Woken) → t .state i ≡ running → length m ≤ 0 → Readies s i l t → Readies t i m u
+    → Readies s i (l ++ m) u
+readies-on s t u i l (y ∷ m) run z a b = absurd (omega (arith, z))
+readies-on s t u i l [] run z a b = record { ready = all l (a .ready); others = λ x c n. b .others x tt n ∙ a .others x (cut l x c) n }
+  where
+    off : (x : ℕ) (r : ℤ) → t .state x ≡ ready r → i ≡ x → ⊥
+    off x r y e =
+        let v : running ≡ ready r = sym run ∙ ap (λ (l : ℕ). t .state l) e ∙ y in
+        absurd (let l : _≡_ {A = ℕ} 0 1 = cc in omega arith)
+
+    all : (l : List Woken) → All (λ (w : Woken). t .state (w .thread) ≡ ready (w .result)) l
+        → All (λ (w : Woken). u .state (w .thread) ≡ ready (w .result)) (l ++ [])
+    all [] y = tt
+    all (x ∷ l) y = (b .others (x .thread) tt (off (x .thread) (x .result) (y .0)) ∙ y .0, all l (y .1))
+
+    cut : (l : List Woken) (x : ℕ) → All (λ (w : Woken). w .thread ≡ x → ⊥) (l ++ []) → All (λ (w : Woken). w .thread ≡ x → ⊥) l
+    cut [] x y = tt
+    cut (w ∷ l) x y = (y .0, cut l x (y .1))
+
+-- the words of both
+pub told-on : (l m : List Woken) (w w' : ℕ) → length m ≤ 0 → Told (map word l) w w' → Told (map word (l ++ m)) w w'
+told-on l (y ∷ m) w w' z t = absurd (omega (arith, z))
+told-on [] [] w w' z t = t
+told-on (x ∷ l) [] w w' z t = t
+
+pub read-on : (l m : List Woken) → length m ≤ 0 → map read (map word l) ≡ l → map read (map word (l ++ m)) ≡ l ++ m
+read-on l (y ∷ m) z t = absurd (omega (arith, z))
+read-on l [] z t = rw (append-nil l) t
+
+pub length-same : (l m : List Woken) → length m ≤ 0 → length (l ++ m) ≡ length l
+length-same l (y ∷ m) z = absurd (omega (arith, z))
+length-same l [] z = ap length (append-nil l)
+
+pub length-on : (l m : List Woken) → length m ≤ 0 → length l ≤ 1 → length (l ++ m) ≤ 1
+length-on l m z t = omega (arith, length-same l m z)
