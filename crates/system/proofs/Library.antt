@@ -11,12 +11,12 @@ use lib.Seq.{getD-set-other}
 use borrow.Author.Tests.{lt-ltb}
 use Rattle.kind.specs.Kind.{Kind, Lawful}
 use Rattle.system.specs.Part.{Part, whole}
-use Rattle.system.specs.Sum.{Member, _⊕_, inLeft, inRight}
+use Rattle.system.specs.Sum.{Member, _⊕_, inLeft, inRight, nones}
 use Rattle.system.specs.Rtos.{rtos}
 use Rattle.system.specs.Link.{Links}
 use Rattle.system.specs.World.{Code}
 use Rattle.system.specs.History.{Histories}
-use Rattle.system.specs.Library.{Stock, only, _⊞_, semCode, mutexCode, condvarCode, futexCode, noneCode, stock, aLock, aCondition, library}
+use Rattle.system.specs.Library.{Stock, only, _⊞_, semCode, mutexCode, condvarCode, futexCode, without, stock, aLock, aCondition, library}
 use Rattle.system.proofs.Sheets.{Fits, whole-fits, left-fits, right-fits}
 use Rattle.system.proofs.Rtos.{rtos-lawful}
 use Rattle.system.proofs.Functions.{sem-links, mutex-links, condvar-links, futex-links}
@@ -91,8 +91,8 @@ futex-right =
       own = omega arith;
     })
 
-none-right : Stocked noneCode
-none-right = record { fits = λ x P h. absurd x; right = λ x. absurd x }
+no-code : (M : Member) → Stocked (without M)
+no-code M = record { fits = λ x P h. absurd x; right = λ x. absurd x }
 
 -- a further kind is one more line
 stocked : Stocked stock
@@ -101,7 +101,7 @@ stocked =
     beside mutex-right
     beside condvar-right
     beside futex-right
-    beside none-right
+    beside no-code nones
 
 pub linked : Linked library
 linked =

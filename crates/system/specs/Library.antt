@@ -57,8 +57,9 @@ condvarCode = only (record { layout = condition.layout; Fn = CondvarFn; function
 abbrev pub futexCode : Stock futexes
 futexCode = only (record { layout = value.layout; Fn = FutexFn; function = futexFn; Told = λ (n : Futex). n .val < 4294967296 })
 
-abbrev pub noneCode : Stock nones
-noneCode = record { Sort = ⊥; kind = λ x. absurd x; code = λ x. absurd x; part = λ x P. absurd x }
+-- a member that has no code
+abbrev pub without : (M : Member) → Stock M
+without M = record { Sort = ⊥; kind = λ x. absurd x; code = λ x. absurd x; part = λ x P. absurd x }
 
 -- a further kind is one more line
 abbrev pub stock : Stock members
@@ -67,7 +68,7 @@ stock =
     ⊞ mutexCode
     ⊞ condvarCode
     ⊞ futexCode
-    ⊞ noneCode
+    ⊞ without nones
 
 -- sorts of objects
 abbrev pub aSemaphore : stock .Sort
