@@ -1,8 +1,8 @@
 //! Gale against itself: each decide function, on plain numbers, against the methods of the object beside it. Nothing of
-//! ours is linked here. The disagreements must be those of the table in README.md, which is compiled in.
+//! ours is linked here. The disagreements must be those of pairs.txt, which is compiled in.
 //!
 //!     pairs FOLDER     compare; FOLDER has Gale's files as they are built; the last line is "N passed, M failed"
-//!     pairs --table    print the rows of the table
+//!     pairs --table    print the rows of pairs.txt
 
 #[allow(dead_code)] // a part of it is needed here
 mod numbers;
@@ -26,8 +26,7 @@ mod pairs {
 use pairs::check::{disagreements, quiet_panics_of_gale, Pair};
 use std::process::ExitCode;
 
-const PAGE: &str = include_str!("README.md");
-const SECTION: &str = "## Gale's decide functions against Gale's objects\n";
+const RECORDED: &str = include_str!("pairs.txt");
 /// The object beside it has nothing that does the same.
 const ALONE: [&str; 1] = ["ring_buf::finish_decide"];
 
@@ -51,24 +50,23 @@ fn all_pairs() -> Vec<Pair> {
     .collect()
 }
 
-/// The rows of the table in README.md.
+/// The rows of pairs.txt.
 fn rows() -> impl Iterator<Item = &'static str> {
-    let section = PAGE.split_once(SECTION).map_or("", |(_, rest)| rest.split("\n## ").next().unwrap());
-    section.lines().filter(|line| line.starts_with("| `"))
+    RECORDED.lines().filter(|line| line.starts_with("| `"))
 }
 
 fn is_of(row: &str, pair: &Pair) -> bool {
     row.starts_with(&format!("| `{}` |", pair.function))
 }
 
-/// Prints how the found rows differ from the table, and answers whether they do not.
+/// Prints how the found rows differ from those recorded, and answers whether they do not.
 fn check(pair: &Pair) -> bool {
     let found = disagreements(pair);
     let known: Vec<&str> = rows().filter(|row| is_of(row, pair)).collect();
     let new: Vec<&String> = found.iter().filter(|row| !known.contains(&row.as_str())).collect();
     let missing: Vec<&&str> = known.iter().filter(|row| !found.iter().any(|other| other == **row)).collect();
-    new.iter().for_each(|row| println!("not in the table: {row}"));
-    missing.iter().for_each(|row| println!("no longer found:  {row}"));
+    new.iter().for_each(|row| println!("not recorded:    {row}"));
+    missing.iter().for_each(|row| println!("no longer found: {row}"));
     println!("{:40}{:>8} inputs{:>4} disagreements", pair.function, pair.inputs().len(), found.len());
     new.is_empty() && missing.is_empty()
 }
