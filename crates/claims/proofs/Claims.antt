@@ -1,0 +1,38 @@
+-- Every claim holds. Assumes nothing.
+use mathlib.Core.Path.{_≡_, subst, ap, _∙_}
+use mathlib.Core.List.{List}
+use Prim.Native.Nat.{ℕ}
+use lib.IntN.{ℤ}
+use Rattle.store.specs.Store as store
+use Rattle.system.proofs.Theorems.{all}
+use Rattle.system.proofs.Library.{code-histories}
+use Rattle.claims.specs.Claims.{Claims}
+use Rattle.claims.proofs.Contracts.{contracts}
+use Rattle.claims.proofs.Objects.{objects}
+
+-- a refusal
+refused-too : {S : Type 0} (P : store.Place S) (f : S → store.Reply S) (h b : List ℕ) (c r : ℤ) (h' b' : List ℕ) → store.reply P f h b ≡ store.refuse c → store.Did P f h b r h' b'
+    → (r ≡ c) × (h' ≡ h) × (b' ≡ b)
+refused-too {S} P f h b c r h' b' e d =
+    let a : (h' ≡ h) × (b' ≡ b) = subst (λ (x : store.Reply S). store.After P x h b h' b') e (d .after) in
+    (d .code ∙ ap store.answer e, a .0, a .1)
+
+pub claims : Claims
+claims =
+    record {
+      contracts = contracts;
+      refused = λ L f h e r h' e' d. (d .kept, d .beside);
+      refused-too = refused-too;
+      objects = objects;
+      laws = all .determined .laws;
+      nothing-else = all .determined .next;
+      one-place = λ f a s b past. let t = all .theorems f a s b past in (t .placed, t .known, t .own, t .bare);
+      rightly = λ f a s b past. let t = all .theorems f a s b past in (t .kept, t .formed);
+      right-thread = λ f a s b past. let t = all .theorems f a s b past in (t .ordered, t .best);
+      once = λ f a s b past. all .theorems f a s b past .life;
+      refusals = λ f a s b past. all .theorems f a s b past .refuses;
+      ledgers = λ f a s b past. all .theorems f a s b past .ledgers;
+      semaphores = λ f a s b past. all .theorems f a s b past .semaphores;
+      mutexes = λ f a s b past. let t = all .theorems f a s b past in (t .mutexes, t .limited);
+      code = code-histories;
+    }
