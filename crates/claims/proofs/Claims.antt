@@ -11,7 +11,8 @@ use Rattle.claims.proofs.Contracts.{contracts}
 use Rattle.claims.proofs.Objects.{objects}
 
 -- a refusal
-refused-too : {S : Type 0} (P : store.Place S) (f : S → store.Reply S) (h b : List ℕ) (c r : ℤ) (h' b' : List ℕ) → store.reply P f h b ≡ store.refuse c → store.Did P f h b r h' b'
+refused-too : {S : Type 0} (P : store.Place S) (f : S → store.Reply S) (h b : List ℕ) (c r : ℤ) (h' b' : List ℕ) → store.reply P f h b ≡ store.refuse c
+    → store.Did P f h b r h' b'
     → (r ≡ c) × (h' ≡ h) × (b' ≡ b)
 refused-too {S} P f h b c r h' b' e d =
     let a : (h' ≡ h) × (b' ≡ b) = subst (λ (x : store.Reply S). store.After P x h b h' b') e (d .after) in

@@ -33,15 +33,16 @@ pub record Claims : Type 1 where
   -- 2, 11: a refusal changes no word, and no call changes one outside the object
   pub refused : {N : Type 0} (L : kind.Layout N) (f : N → List ℕ → kind.Out N) (h e : List ℕ) (r : ℤ) (h' e' : List ℕ) → kind.Does L f h e r h' e'
       → Refused r ((h' ≡ h) × (e' ≡ e)) × (drop (L .words) h' ≡ drop (L .words) h)
-  pub refused-too : {S : Type 0} (P : store.Place S) (f : S → store.Reply S) (h b : List ℕ) (c : ℤ) (r : ℤ) (h' b' : List ℕ) → store.reply P f h b ≡ store.refuse c
+  pub refused-too : {S : Type 0} (P : store.Place S) (f : S → store.Reply S) (h b : List ℕ) (c : ℤ) (r : ℤ) (h' b' : List ℕ)
+      → store.reply P f h b ≡ store.refuse c
       → store.Did P f h b r h' b' → (r ≡ c) × (h' ≡ h) × (b' ≡ b)
   -- 4 to 6, 9, 12 to 18: objects alone, after any calls
   pub objects : Objects
-
   -- ---- docs/THEOREMS.md, and 3 and 7 of README.md
   -- 1, 2: our step keeps the laws, and nothing else does
   pub laws : Laws members step
-  pub nothing-else : (f : Kernel rtos) → Laws members f → (s : Sys rtos) → Start s → (past : List (Op rtos)) (x : Op rtos) → f (reached f s past) x ≡ step (after s past) x
+  pub nothing-else : (f : Kernel rtos) → Laws members f → (s : Sys rtos) → Start s → (past : List (Op rtos)) (x : Op rtos)
+      → f (reached f s past) x ≡ step (after s past) x
   -- 3: every thread is running, ready, or in exactly one queue, once
   pub one-place : Always (λ R past. Placed (R .state past) × Known (R .state past) × Own (R .state past) × Bare (R .state past))
   -- 4: no thread waits while what it waits for is there

@@ -48,14 +48,19 @@ pub record Objects : Type 1 where
   pub mutex : (xs : List (histories.Event lock.Call)) → mutex.Promise xs
   pub futex : (v : ℕ) (xs : List (histories.Event value.Call)) → futex.Promise v xs
   -- in memory, from an init on that is answered 0
-  pub ring-buffer : (c : ℕ) (h b h₀ b₀ : List ℕ) → store.Started bytes.bytes (bytes.may c b) (bytes.new c b) h b ok h₀ b₀ → (ss : List (steps.Step ring_buf.Call)) (h' b' : List ℕ)
-      → steps.Made bytes.bytes ring_buf.does ring_buf.gives h₀ b₀ ss h' b' → (bytes.bytes .formed h' b' ≡ true) × ring_buf.Promise c ss (bytes.bytes .object h' b')
-  pub message-queue : (c z : ℕ) (h b h₀ b₀ : List ℕ) → store.Started queues.messages (queues.may z c b) (queues.new z c b) h b ok h₀ b₀ → (ss : List (steps.Step msgq.Call))
+  pub ring-buffer : (c : ℕ) (h b h₀ b₀ : List ℕ) → store.Started bytes.bytes (bytes.may c b) (bytes.new c b) h b ok h₀ b₀
+      → (ss : List (steps.Step ring_buf.Call)) (h' b' : List ℕ)
+      → steps.Made bytes.bytes ring_buf.does ring_buf.gives h₀ b₀ ss h' b'
+      → (bytes.bytes .formed h' b' ≡ true) × ring_buf.Promise c ss (bytes.bytes .object h' b')
+  pub message-queue : (c z : ℕ) (h b h₀ b₀ : List ℕ) → store.Started queues.messages (queues.may z c b) (queues.new z c b) h b ok h₀ b₀
+      → (ss : List (steps.Step msgq.Call))
       (h' b' : List ℕ) → steps.Made queues.messages msgq.does msgq.gives h₀ b₀ ss h' b'
       → (queues.messages .formed h' b' ≡ true) × msgq.Promise c z ss (queues.messages .object h' b')
-  pub pipe : (n : ℕ) (h b h₀ b₀ : List ℕ) → store.Started pipes.layout (bytes.may n b) (pipes.new n b) h b ok h₀ b₀ → (ss : List (steps.Step pipe.Call)) (h' b' : List ℕ)
+  pub pipe : (n : ℕ) (h b h₀ b₀ : List ℕ) → store.Started pipes.layout (bytes.may n b) (pipes.new n b) h b ok h₀ b₀
+      → (ss : List (steps.Step pipe.Call)) (h' b' : List ℕ)
       → steps.Made pipes.layout pipe.does pipe.gives h₀ b₀ ss h' b' → (pipes.layout .formed h' b' ≡ true) × pipe.Promise n ss (pipes.layout .object h' b')
-  pub stack : (c : ℕ) (h w h₀ w₀ : List ℕ) → store.Started words.place (stacks.may c w) (stacks.fresh c w) h w ok h₀ w₀ → (ts : List (steps.Step stack.Call)) (h' w' : List ℕ)
+  pub stack : (c : ℕ) (h w h₀ w₀ : List ℕ) → store.Started words.place (stacks.may c w) (stacks.fresh c w) h w ok h₀ w₀
+      → (ts : List (steps.Step stack.Call)) (h' w' : List ℕ)
       → steps.Made words.place stack.does stack.gives h₀ w₀ ts h' w' → stack.Kept c ts h' w'
   pub memory-slab : (z n : ℕ) → mem_slab.Always z n
   -- whatever the links of a slab hold
@@ -66,9 +71,9 @@ pub record Objects : Type 1 where
   pub none-lost : timers.NoneLost
   pub timeout : timeouts.Always
   pub once : timeouts.Once
-
   -- with those that wait
   pub message-queue-fair : (c z : ℕ) (b : List ℕ) (es : List waiting.Event) → 0 < c → waiting.Fair c z (waiting.ends (unwaited (queues.new z c b)) es)
-  pub pipe-fair : (c : ℕ) → 0 < c → (b : List ℕ) (es : List waiters.Event) → fair.Fair c (waiters.ends (waiters.waited (pipes.new c b) [] [] false waiters.fresh) es)
+  pub pipe-fair : (c : ℕ) → 0 < c → (b : List ℕ) (es : List waiters.Event)
+      → fair.Fair c (waiters.ends (waiters.waited (pipes.new c b) [] [] false waiters.fresh) es)
   pub stack-alike : (c : ℕ) (w : List ℕ) → stacks.may c w ≡ true → (es : List handed.Event) → handed.Alike (record { stack = stacks.fresh c w; waiting = 0 }) es
   pub slab-handed : (b : ℕ) (h l : List ℕ) → given.HandOver b h l

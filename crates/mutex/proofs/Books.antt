@@ -18,12 +18,14 @@ mk o c = record { owner = o; count = c }
 
 module _ (q : List ℕ) (w : ℕ) where
   -- a lock, with the verdict d on another's
-  locks-booked : (k : Call) (o : Owner) (c : ℕ) (d : Verdict Mutex (Unit {0})) → (owns w o ≡ false → (i : ℕ) → o ≡ thread i → Booked mutex-kind (mk o c) q w k d)
+  locks-booked : (k : Call) (o : Owner) (c : ℕ) (d : Verdict Mutex (Unit {0}))
+      → (owns w o ≡ false → (i : ℕ) → o ≡ thread i → Booked mutex-kind (mk o c) q w k d)
       → (mutex-kind .books (mk o c) w k ok [] ≡ mutex-kind .books (mk o c) w lock ok []) → Booked mutex-kind (mk o c) q w k (locks (mk o c) w d)
   locks-booked k nobody c d h e = e
   locks-booked k (thread i) c d h e = go (eqb i w) (ltb c maxCount) refl refl
     where
-      go : (a b : Bool) → eqb i w ≡ a → ltb c maxCount ≡ b → Booked mutex-kind (mk (thread i) c) q w k (cond a (cond b (allow (mk (thread i) (suc c)) keep ok) (deny eoverflow)) d)
+      go : (a b : Bool) → eqb i w ≡ a → ltb c maxCount ≡ b
+          → Booked mutex-kind (mk (thread i) c) q w k (cond a (cond b (allow (mk (thread i) (suc c)) keep ok) (deny eoverflow)) d)
       go true true y z = rw (e, y, z)
       go true false y z = tt
       go false b y z = h y i refl
@@ -40,7 +42,8 @@ module _ (q : List ℕ) (w : ℕ) where
       go false b y z = tt
 
 -- the last one
-passed : (o : Owner) (c : ℕ) (q : List ℕ) (w : ℕ) → owns w o ≡ true → Booked mutex-kind (mk o c) q w unlock (passes q) × Booked mutex-kind (mk o c) q w release (passes q)
+passed : (o : Owner) (c : ℕ) (q : List ℕ) (w : ℕ) → owns w o ≡ true
+    → Booked mutex-kind (mk o c) q w unlock (passes q) × Booked mutex-kind (mk o c) q w release (passes q)
 passed o c [] w e = (rw e, rw e)
 passed o c (t ∷ q) w e = (rw e, rw e)
 
@@ -65,7 +68,8 @@ module _ (m y : Mutex) (h : m .count ≤ maxCount) where
   locked-small w (pos r) e = go (held (m .owner)) (owns w (m .owner)) (eqb r 0) (ltb (m .count) maxCount) refl e
     where
       go : (a b c d : Bool) → ltb (m .count) maxCount ≡ d
-          → cond a (cond b (cond c (cond d (balanced (counting (suc (m .count)) m)) impossible) impossible) (cond c impossible (balanced m))) (cond c (balanced (taken w)) impossible) ≡ balanced y
+          → cond a (cond b (cond c (cond d (balanced (counting (suc (m .count)) m)) impossible) impossible) (cond c impossible (balanced m)))
+          (cond c (balanced (taken w)) impossible) ≡ balanced y
           → y .count ≤ maxCount
       go true true true true z e = was (counting (suc (m .count)) m) (ltb-true (m .count) maxCount z) e
       go true true true false z e = never e
@@ -83,7 +87,8 @@ module _ (m y : Mutex) (h : m .count ≤ maxCount) where
   unlocked-small w (negsuc r) l e = never e
   unlocked-small w (pos r) l e = go (owns w (m .owner)) (eqb r 0) (ltb 1 (m .count)) e
     where
-      go : (a b c : Bool) → cond a (cond b (cond c (balanced (counting (m .count - 1) m)) impossible) (handedTo l)) impossible ≡ balanced y → y .count ≤ maxCount
+      go : (a b c : Bool) → cond a (cond b (cond c (balanced (counting (m .count - 1) m)) impossible) (handedTo l)) impossible ≡ balanced y
+          → y .count ≤ maxCount
       go true true true e = was (counting (m .count - 1) m) (omega arith) e
       go true true false e = never e
       go true false c e = handed-small l e

@@ -114,7 +114,8 @@ module _ {K : Kind} (turn : Turnwise K) (s : Sys K) (g : Fine s) (i o : ℕ) (k 
   by-verdict (allow m (wake p w) (negsuc c)) n f h l = never (sym a ∙ h)
   by-verdict (allow m (wake p w) (pos c)) n f h l = go (holds t (gone ident p q)) (holds u (gone ident p q)) refl refl h l
     where
-      go : (y z : Bool) → holds t (gone ident p q) ≡ y → holds u (gone ident p q) ≡ z → cond y (ready (w t)) (s .state t) ≡ ready r → cond z (ready (w u)) (s .state u) ≡ waiting x → R t u
+      go : (y z : Bool) → holds t (gone ident p q) ≡ y → holds u (gone ident p q) ≡ z → cond y (ready (w t)) (s .state t) ≡ ready r
+          → cond z (ready (w u)) (s .state u) ≡ waiting x → R t u
       go true true d e h l = never (sym l)
       go true false d e h l = by-pick p f d e
       go false z d e h l = never (sym a ∙ h)
@@ -157,7 +158,8 @@ is-call direct = tt
 is-call former = tt
 is-call latter = tt
 
-waker : {K : Kind} {v : ℕ → K .Wish} {x : Op K} {a : Answer} {t : ℕ} {y z : State} (o : ℕ) (r : ℤ) → Life K v x a t y z → y ≡ waiting o → z ≡ ready r → (x ≡ expire t) ⊎ IsCall x
+waker : {K : Kind} {v : ℕ → K .Wish} {x : Op K} {a : Answer} {t : ℕ} {y z : State} (o : ℕ) (r : ℤ) → Life K v x a t y z → y ≡ waiting o → z ≡ ready r
+    → (x ≡ expire t) ⊎ IsCall x
 waker o r stays h l = never (sym h ∙ l)
 waker o r (began c) h l = absurd (let z : _≡_ {A = ℕ} 0 1 = cc in omega arith)
 waker o r (woken c e) h l = inr (is-call c)
@@ -182,7 +184,8 @@ module _ {K : Kind} (law : Lawful K) (turn : Turnwise K) (s : Sys K) (g : Fine s
       by-t : mid .state u ≡ waiting x → Does K (s .wish) i a j t (s .state t) (mid .state t) → R t u
       by-t e (nothing w) =
           call-best turn mid fine-mid i b k R t u x r
-          (λ c. subst (λ (q : List ℕ). Sorted R (map ident q)) (sym (called-there s i a j b off)) (subst (λ (o : ℕ). Sorted R (map ident (s .queue o))) c sorted)) (w ∙ h) e y z
+          (λ c. subst (λ (q : List ℕ). Sorted R (map ident q)) (sym (called-there s i a j b off))
+          (subst (λ (o : ℕ). Sorted R (map ident (s .queue o))) c sorted)) (w ∙ h) e y z
       by-t e (waits w v d) = absurd (let c : _≡_ {A = ℕ} 0 1 = cc in omega arith)
       by-t e (wakes c w v d f) = call-best turn s g i a j R t u x c (λ n. subst (λ (o : ℕ). Sorted R (map ident (s .queue o))) n sorted) h l d e
 
@@ -210,12 +213,14 @@ module _ {K : Kind} (law : Lawful K) (turn : Turnwise K) (s : Sys K) (b : Start 
       sorted : Sorted R (map ident (old .queue o))
       sorted = ordered law s b past o
 
-      both-best : (i a : ℕ) (j : K .Call) (d : ℕ) (k : K .Call) (c : Bool) → eqb a d ≡ c → cond {A = Reply K} c (refuse old einval) (paired old i a j d k) .0 .state t ≡ ready r
+      both-best : (i a : ℕ) (j : K .Call) (d : ℕ) (k : K .Call) (c : Bool) → eqb a d ≡ c
+          → cond {A = Reply K} c (refuse old einval) (paired old i a j d k) .0 .state t ≡ ready r
           → cond {A = Reply K} c (refuse old einval) (paired old i a j d k) .0 .state u ≡ waiting o → R t u
       both-best i a j d k true e y z = never (sym h ∙ y)
       both-best i a j d k false e y z = go (answers old i a j d k) y z
         where
-          go : (c : ℤ) → unless c old (called (called old i a j .0) i d k .0) .state t ≡ ready r → unless c old (called (called old i a j .0) i d k .0) .state u ≡ waiting o → R t u
+          go : (c : ℤ) → unless c old (called (called old i a j .0) i d k .0) .state t ≡ ready r
+              → unless c old (called (called old i a j .0) i d k .0) .state u ≡ waiting o → R t u
           go (pos c) y z = two-best law turn old fine i a j d k (eqb-false a d e) R t u o r sorted h l y z
           go (negsuc c) y z = never (sym h ∙ y)
 

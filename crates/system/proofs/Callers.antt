@@ -114,7 +114,8 @@ module _ {A K : Kind} (law : Lawful K) (P : Part A K) (fits : Fits P) (L : Layou
     as-thread : Truthful s i u → Same (call A v (thread (u .id) (u .priority) (u .state)) k)
     as-thread t =
         call-part P fits (s .wish) (thread i (s .prio i) (number (s .state i))) k n q
-        ∙ ap (λ (w : object.Caller). wrapped (P .num) (call A v w k n q)) (let x : thread i (s .prio i) (number (s .state i)) ≡ thread (u .id) (u .priority) (u .state) =
+        ∙ ap (λ (w : object.Caller). wrapped (P .num) (call A v w k n q))
+        (let x : thread i (s .prio i) (number (s .state i)) ≡ thread (u .id) (u .priority) (u .state) =
         cc in x)
 
     pub by-thread : Fated true (A .decide n v (map ident q) i k) → Truthful s i u → m (length q) ≤ 0

@@ -93,7 +93,8 @@ module _ {K : Kind} (s : Sys K) (g : Fine s) (i o : ℕ) (n : K .Num) (h : s .sl
   stays : (m : K .Num) (r : ℤ) → K .formed m (any q) ≡ true → Rightly K m (s .wish) (map ident q)
       → Fine (serve s i o (allow m keep r) (carried {W = K .Wish} (thread i (s .prio i) 1) (allow m keep r) n q))
   stays m r f k =
-      changed (allow m keep r) (carried {W = K .Wish} (thread i (s .prio i) 1) (allow m keep r) n q) (λ t. g .placed o t) (λ x t e. g .placed x t) k elsewhere f (g .queues o) (g .own o)
+      changed (allow m keep r) (carried {W = K .Wish} (thread i (s .prio i) 1) (allow m keep r) n q) (λ t. g .placed o t)
+      (λ x t e. g .placed x t) k elsewhere f (g .queues o) (g .own o)
       (λ t z. z)
 
   -- some are woken
@@ -121,9 +122,11 @@ module _ {K : Kind} (s : Sys K) (g : Fine s) (i o : ℕ) (n : K .Num) (h : s .sl
     known-woken t true z c = λ a. let v : waiting o ≡ absent = sym (waited t z) ∙ a in absurd (let x : _≡_ {A = ℕ} 0 1 = cc in omega arith)
     known-woken t false z c = rw z at c
 
-    wakes : K .formed m (any (left ident p q)) ≡ true → Rightly K m (s .wish) (map ident (left ident p q)) → Fine (serve s i o some (carried (thread i (s .prio i) 1) some n q))
+    wakes : K .formed m (any (left ident p q)) ≡ true → Rightly K m (s .wish) (map ident (left ident p q))
+        → Fine (serve s i o some (carried (thread i (s .prio i) 1) some n q))
     wakes c k =
-        changed some (carried (thread i (s .prio i) 1) some n q) (λ t. here-woken t (holds t (gone ident p q)) refl) (λ x t e. there-woken x t e (holds t (gone ident p q)) refl) k elsewhere c
+        changed some (carried (thread i (s .prio i) 1) some n q) (λ t. here-woken t (holds t (gone ident p q)) refl)
+        (λ x t e. there-woken x t e (holds t (gone ident p q)) refl) k elsewhere c
         (well-sub (left-sub ident p q) (g .queues o)) (sub-holds _ (left-sub ident p q) (g .own o)) (λ t z. known-woken t (holds t (gone ident p q)) refl z)
 
   -- the caller waits
@@ -163,7 +166,8 @@ module _ {K : Kind} (s : Sys K) (g : Fine s) (i o : ℕ) (n : K .Num) (h : s .sl
     known-joined t false e c = c
 
     -- the others' wishes are as they were
-    wish-off : (k : K .Num) (l : List ℕ) → holds i l ≡ false → Rightly K k (s .wish) (map ident l) → All (λ y. K .Blocked k (ident y) (upd (s .wish) i x (ident y))) l
+    wish-off : (k : K .Num) (l : List ℕ) → holds i l ≡ false → Rightly K k (s .wish) (map ident l)
+        → All (λ y. K .Blocked k (ident y) (upd (s .wish) i x (ident y))) l
     wish-off k l z a =
         all-two (λ y. Other i y) (λ y. K .Blocked k (ident y) (s .wish (ident y))) (λ y. K .Blocked k (ident y) (upd (s .wish) i x (ident y))) l
         (λ y n b. rw (ne-eqb i (ident y) (λ e. n (sym e))) b) (holds-none i l z) (all-list (λ t. K .Blocked k t (s .wish t)) l a)
@@ -172,24 +176,29 @@ module _ {K : Kind} (s : Sys K) (g : Fine s) (i o : ℕ) (n : K .Num) (h : s .sl
     waits f b k =
         changed wait joins (λ t. times-joined t w q ∙ rw its (here-joined t (eqb i t) refl)) (λ y t n. there-joined y t n (eqb i t) refl)
         (list-all (λ t. K .Blocked m t (upd (s .wish) i x t)) (joined w q)
-        (all-insert prio (λ y. K .Blocked m (ident y) (upd (s .wish) i x (ident y))) w q (rw (its, eq-eqb i i refl) b) (wish-off m q (not-held i q (nowhere o)) k)))
-        (λ y l z n. list-all (λ t. K .Blocked l t (upd (s .wish) i x t)) (s .queue y) (wish-off l (s .queue y) (not-held i (s .queue y) (nowhere y)) (g .kept y l z)))
+        (all-insert prio (λ y. K .Blocked m (ident y) (upd (s .wish) i x (ident y))) w q (rw (its, eq-eqb i i refl) b)
+        (wish-off m q (not-held i q (nowhere o)) k)))
+        (λ y l z n. list-all (λ t. K .Blocked l t (upd (s .wish) i x t)) (s .queue y)
+        (wish-off l (s .queue y) (not-held i (s .queue y) (nowhere y)) (g .kept y l z)))
         (rw (any-joined w q) f)
         (well-joined w q (g .queues o) (rw its (not-held i q (nowhere o))) few (rw (prio-entry (s .prio i) i small) (g .known i there-is .1)))
         (all-insert prio (λ y. y ≡ entry (s .prio (ident y)) (ident y)) w q (rw its refl) (g .own o)) (λ t z. known-joined t (eqb i t) refl z)
 
   -- a verdict
   pub by-verdict : (law : Lawful K) (k : K .Call) → s .state i ≡ running
-      → Fine (unless (carried (thread i (s .prio i) 1) (K .decide n (s .wish) (map ident q) i k) n q .turn .code) s (serve s i o (K .decide n (s .wish) (map ident q) i k) (carried (thread i (s .prio i) 1) (K .decide n (s .wish) (map ident q) i k) n q)))
+      → Fine (unless (carried (thread i (s .prio i) 1) (K .decide n (s .wish) (map ident q) i k) n q .turn .code) s
+      (serve s i o (K .decide n (s .wish) (map ident q) i k) (carried (thread i (s .prio i) 1) (K .decide n (s .wish) (map ident q) i k) n q)))
   by-verdict law k run =
       let f : K .formed n (any (map ident q)) ≡ true = rw (any-map ident q) (g .formed o n h) in
-      go (K .decide n (s .wish) (map ident q) i k) (law .sound n (s .wish) (map ident q) i k f) (law .right n (s .wish) (map ident q) i k f (distinct q (g .queues o .single)) (g .kept o n h))
+      go (K .decide n (s .wish) (map ident q) i k) (law .sound n (s .wish) (map ident q) i k f)
+      (law .right n (s .wish) (map ident q) i k f (distinct q (g .queues o .single)) (g .kept o n h))
     where
       go : (d : Verdict (K .Num) (K .Wish)) → Sound K (map ident q) d → Right K (s .wish) (map ident q) i k d
           → Fine (unless (carried (thread i (s .prio i) 1) d n q .turn .code) s (serve s i o d (carried (thread i (s .prio i) 1) d n q)))
       go (deny (negsuc c)) a b = g
       go (deny (pos c)) a b =
-          changed (deny (pos c)) (carried {W = K .Wish} (thread i (s .prio i) 1) (deny (pos c)) n q) (λ t. g .placed o t) (λ x t e. g .placed x t) (g .kept o n h) elsewhere (g .formed o n h) (g .queues o) (g .own o)
+          changed (deny (pos c)) (carried {W = K .Wish} (thread i (s .prio i) 1) (deny (pos c)) n q) (λ t. g .placed o t) (λ x t e. g .placed x t)
+          (g .kept o n h) elsewhere (g .formed o n h) (g .queues o) (g .own o)
           (λ t z. z)
       go (allow m keep (negsuc c)) a b = g
       go (allow m keep (pos c)) a b = stays m (pos c) (rw (any-map ident q) at a) b
@@ -199,7 +208,8 @@ module _ {K : Kind} (s : Sys K) (g : Fine s) (i o : ℕ) (n : K .Num) (h : s .sl
       go (allow m (park x) c) a b = parks (holds (ident (entry (s .prio i) i)) q) (ltb (length q) maxWaiters) refl refl
         where
           parks : (j l : Bool) → holds (ident (entry (s .prio i) i)) q ≡ j → ltb (length q) maxWaiters ≡ l
-              → Fine (unless (carried (thread i (s .prio i) 1) (allow m (park x) c) n q .turn .code) s (serve s i o (allow m (park x) c) (carried (thread i (s .prio i) 1) (allow m (park x) c) n q)))
+              → Fine (unless (carried (thread i (s .prio i) 1) (allow m (park x) c) n q .turn .code) s
+              (serve s i o (allow m (park x) c) (carried (thread i (s .prio i) 1) (allow m (park x) c) n q)))
           parks true l y z = rw y g
           parks false true y z = rw (y, z) (waits x m c run (ltb-true (length q) maxWaiters z) a (b .0) (b .1))
           parks false false y z = rw (y, z) g
@@ -229,7 +239,8 @@ module _ {K : Kind} (s : Sys K) (i o : ℕ) (k : K .Call) (n : K .Num) (f : K .f
   barred c z = rw (f, z)
 
   -- and one that runs gets what the object decides
-  pub granted : (c : ℕ) → callerCode (s .prio i) (number (s .state i)) ≡ pos c → outcome s i o k n ≡ carried (thread i (s .prio i) 1) (verdict s i o k n) n (s .queue o)
+  pub granted : (c : ℕ) → callerCode (s .prio i) (number (s .state i)) ≡ pos c
+      → outcome s i o k n ≡ carried (thread i (s .prio i) 1) (verdict s i o k n) n (s .queue o)
   granted c z =
       let r : s .state i ≡ running = runs (s .prio i) (s .state i) c z in
       let y : callerCode (s .prio i) 1 ≡ pos c = rw r at z in

@@ -22,7 +22,8 @@ use Rattle.system.proofs.Same.{one-wait, one-wake}
 use Rattle.system.proofs.Bests.{Turnwise}
 use Rattle.system.proofs.Sheets.{Fits, Sheet}
 
-module _ {K : Kind} (P : Part condvar-kind K) (h : Fits P) (s : Sys K) (g : Fine s) (i o : ℕ) (n : Unit {0}) (e : s .slot o ≡ object (P .num n)) (r : s .state i ≡ running) where
+module _ {K : Kind} (P : Part condvar-kind K) (h : Fits P) (s : Sys K) (g : Fine s) (i o : ℕ) (n : Unit {0}) (e : s .slot o ≡ object (P .num n))
+    (r : s .state i ≡ running) where
   -- what it decides, in words of the system
   says : (k : Call) (d : Verdict (Unit {0}) (Unit {0})) → decide n (λ t. P .seen (s .wish t)) (map ident (s .queue o)) i k ≡ d
       → verdict s i o (P .call k) (P .num n) ≡ mapped (P .num) (P .wish) d
@@ -33,7 +34,8 @@ module _ {K : Kind} (P : Part condvar-kind K) (h : Fits P) (s : Sys K) (g : Fine
       record {
         signals =
             record {
-              first = λ x q z. effects.passes-one s g i o (P .call signal) (P .num n) e r 1 x q z (says signal (allow n (wake (upTo 1) (λ t. ok)) (pos 1)) (rw z));
+              first = λ x q z. effects.passes-one s g i o (P .call signal) (P .num n) e r 1 x q z
+                  (says signal (allow n (wake (upTo 1) (λ t. ok)) (pos 1)) (rw z));
               alone = λ z. effects.stays s g i o (P .call signal) (P .num n) e r 0 (says signal (allow n keep (pos 0)) (rw z));
             };
         broadcasts =

@@ -49,10 +49,12 @@ module _ {M : Member} (h : Sheet M) where
 
   module _ (f g : Kernel K) (s : Sys K) (a : LawsAt M f s) (b : LawsAt M g s) (fine : Fine s) where
     -- two calls: the second in the state that the first leaves
-    one-pair : (i x : ℕ) (j : K .Call) (y : ℕ) (k : K .Call) → LawsAt M f (g s (invoke i x j) .0) → LawsAt M g (g s (invoke i x j) .0) → Fine (g s (invoke i x j) .0)
+    one-pair : (i x : ℕ) (j : K .Call) (y : ℕ) (k : K .Call) → LawsAt M f (g s (invoke i x j) .0) → LawsAt M g (g s (invoke i x j) .0)
+        → Fine (g s (invoke i x j) .0)
         → f s (both i x j y k) ≡ g s (both i x j y k)
     one-pair i x j y k c d good =
-        ⊎-elim (λ e. subst (λ (z : ℕ). f s (both i x j z k) ≡ g s (both i x j z k)) e (a .pairs .same i x j k ∙ sym (b .pairs .same i x j k))) (λ n. go n (g s (invoke i x j) .1) refl)
+        ⊎-elim (λ e. subst (λ (z : ℕ). f s (both i x j z k) ≡ g s (both i x j z k)) e (a .pairs .same i x j k ∙ sym (b .pairs .same i x j k)))
+        (λ n. go n (g s (invoke i x j) .1) refl)
         (alike x y)
       where
         u : f s (invoke i x j) ≡ g s (invoke i x j)
@@ -61,7 +63,8 @@ module _ {M : Member} (h : Sheet M) where
         v : f (f s (invoke i x j) .0) (invoke i y k) ≡ g (g s (invoke i x j) .0) (invoke i y k)
         v = ap (λ (z : Reply K). f (z .0) (invoke i y k)) u ∙ one-call f g (g s (invoke i x j) .0) c d good i y k
 
-        then : (x ≡ y → ⊥) → (m : ℤ) → g s (invoke i x j) .1 ≡ done m → (z : Answer) → g (g s (invoke i x j) .0) (invoke i y k) .1 ≡ z → f s (both i x j y k) ≡ g s (both i x j y k)
+        then : (x ≡ y → ⊥) → (m : ℤ) → g s (invoke i x j) .1 ≡ done m → (z : Answer) → g (g s (invoke i x j) .0) (invoke i y k) .1 ≡ z
+            → f s (both i x j y k) ≡ g s (both i x j y k)
         then n m e (done l) w =
             a .pairs .two i x y j k m l n (ap (λ (z : Reply K). z .1) u ∙ e) (ap (λ (z : Reply K). z .1) v ∙ w)
             ∙ (λ t. (v t .0, done m, u t .2 ++ v t .2))
@@ -91,12 +94,14 @@ module _ {M : Member} (h : Sheet M) where
         call i o k = one-call f step (after s past) here ours (fine past) i o k
 
         there : (i o : ℕ) (k : K .Call) → LawsAt M f (step (after s past) (invoke i o k) .0)
-        there i o k = subst (LawsAt M f) (ap (λ (u : Sys K). f u (invoke i o k) .0) e ∙ ap (λ (z : Reply K). z .0) (call i o k)) (a s start (invoke i o k ∷ past))
+        there i o k = subst (LawsAt M f) (ap (λ (u : Sys K). f u (invoke i o k) .0) e ∙ ap (λ (z : Reply K). z .0) (call i o k))
+            (a s start (invoke i o k ∷ past))
 
         go : (x : Op K) → f (after s past) x ≡ step (after s past) x
         go (invoke i o k) = call i o k
         go (both i o j p k) =
-            one-pair f step (after s past) here ours (fine past) i o j p k (there i o j) (laws-at h (after s (invoke i o j ∷ past)) (fine (invoke i o j ∷ past)))
+            one-pair f step (after s past) here ours (fine past) i o j p k (there i o j)
+            (laws-at h (after s (invoke i o j ∷ past)) (fine (invoke i o j ∷ past)))
             (fine (invoke i o j ∷ past))
         go (dispatch i) = one-dispatch f step (after s past) (here .threads) (ours .threads) (fine past) i
         go (yield i) = one-yield f step (after s past) (here .threads) (ours .threads) (fine past) i

@@ -50,7 +50,8 @@ freed-off o r (waiting y) h = go (eqb y o) h
     go false z = refl
 
 -- a call that is refused
-pub barring : {K : Kind} (s : Sys K) (i o : ℕ) (k : K .Call) (n : K .Num) → s .slot o ≡ object n → (c : ℕ) → outcome s i o k n ≡ refused (negsuc c) n (s .queue o)
+pub barring : {K : Kind} (s : Sys K) (i o : ℕ) (k : K .Call) (n : K .Num) → s .slot o ≡ object n → (c : ℕ)
+    → outcome s i o k n ≡ refused (negsuc c) n (s .queue o)
     → Denies step s (invoke i o k) (negsuc c)
 barring {K} s i o k n h c e = λ j. (p j, reply (q j), w j)
   where
@@ -85,7 +86,8 @@ module _ {K : Kind} (s : Sys K) (g : Fine s) (i o : ℕ) (k : K .Call) (n : K .N
   -- numbers that stay
   uncounted : (a : Answer) (es : List (Effect K)) (w : List Woken) → Does step s (invoke i o k) a (has-numbers o n ∷ es) w → Does step s (invoke i o k) a es w
   uncounted a es w p =
-      let e : put s (has-numbers o n) ≡ s = same (put s (has-numbers o n)) s (λ t. refl) (λ t. refl) (λ t. refl) (upd-same (s .slot) o (object n) h) (λ t. refl) in
+      let e : put s (has-numbers o n)
+      ≡ s = same (put s (has-numbers o n)) s (λ t. refl) (λ t. refl) (λ t. refl) (upd-same (s .slot) o (object n) h) (λ t. refl) in
       p ∙ (λ j. (puts (e j) es, a, w))
 
   pub keeps : (m : K .Num) (c : ℕ) → verdict s i o k n ≡ allow m keep (pos c) → Does step s (invoke i o k) (done (pos c)) (has-numbers o m ∷ []) []
@@ -100,7 +102,8 @@ module _ {K : Kind} (s : Sys K) (g : Fine s) (i o : ℕ) (k : K .Call) (n : K .N
       → Does step s (invoke i o k) (done (pos c)) (has-numbers o m ∷ is-now (ident x) (ready ok) ∷ has-queue o q ∷ []) (woke (ident x) ok ∷ [])
   wakes-one m c x q e y =
       by (allow m (wake (upTo 1) (λ t. ok)) (pos c)) c (has-numbers o m ∷ is-now (ident x) (ready ok) ∷ has-queue o q ∷ []) y refl
-      (same _ (puts s (has-numbers o m ∷ is-now (ident x) (ready ok) ∷ has-queue o q ∷ [])) (λ t. refl) (λ t. rw (e, cond-self (eqb (ident x) t))) (λ t. refl) (λ t. refl)
+      (same _ (puts s (has-numbers o m ∷ is-now (ident x) (ready ok) ∷ has-queue o q ∷ [])) (λ t. refl) (λ t. rw (e, cond-self (eqb (ident x) t)))
+      (λ t. refl) (λ t. refl)
       (λ t. rw e))
       ∙ (λ j. (puts s (has-numbers o m ∷ is-now (ident x) (ready ok) ∷ has-queue o q ∷ []), done (pos c), woken {W = K .Wish} (wake (upTo 1) (λ t. ok)) (e j)))
 
@@ -109,11 +112,13 @@ module _ {K : Kind} (s : Sys K) (g : Fine s) (i o : ℕ) (k : K .Call) (n : K .N
   passes-one c x q e y = uncounted (done (pos c)) (is-now (ident x) (ready ok) ∷ has-queue o q ∷ []) (woke (ident x) ok ∷ []) (wakes-one n c x q e y)
 
   pub wakes-all : (m : K .Num) (v : ℤ) → verdict s i o k n ≡ allow m (wake everybody (λ t. v)) (pos (length (map ident (s .queue o))))
-      → Does step s (invoke i o k) (done (pos (length (s .queue o)))) (has-numbers o m ∷ all-ready o v ∷ has-queue o [] ∷ []) (map (λ x. woke (ident x) v) (s .queue o))
+      → Does step s (invoke i o k) (done (pos (length (s .queue o)))) (has-numbers o m ∷ all-ready o v ∷ has-queue o [] ∷ [])
+      (map (λ x. woke (ident x) v) (s .queue o))
   wakes-all m v y =
       by (allow m (wake everybody (λ t. v)) (pos (length (s .queue o)))) (length (s .queue o)) (has-numbers o m ∷ all-ready o v ∷ has-queue o [] ∷ [])
       (y ∙ rw (length-map (s .queue o) ident)) refl
-      (same _ (puts s (has-numbers o m ∷ all-ready o v ∷ has-queue o [] ∷ [])) (λ t. refl) (λ t. free-at t (holds t (s .queue o)) refl) (λ t. refl) (λ t. refl) (λ t. refl))
+      (same _ (puts s (has-numbers o m ∷ all-ready o v ∷ has-queue o [] ∷ [])) (λ t. refl) (λ t. free-at t (holds t (s .queue o)) refl) (λ t. refl)
+      (λ t. refl) (λ t. refl))
     where
       free-at : (t : ℕ) (b : Bool) → holds t (s .queue o) ≡ b → cond b (ready v) (s .state t) ≡ freed o v (s .state t)
       free-at t true e = rw (on-is o (s .state t) (omega (arith, g .placed o t, held t (s .queue o) e)), eq-eqb o o refl)
@@ -121,14 +126,16 @@ module _ {K : Kind} (s : Sys K) (g : Fine s) (i o : ℕ) (k : K .Call) (n : K .N
 
   pub frees-all : (v : ℤ) → verdict s i o k n ≡ allow n (wake everybody (λ t. v)) (pos (length (map ident (s .queue o))))
       → Does step s (invoke i o k) (done (pos (length (s .queue o)))) (all-ready o v ∷ has-queue o [] ∷ []) (map (λ x. woke (ident x) v) (s .queue o))
-  frees-all v y = uncounted (done (pos (length (s .queue o)))) (all-ready o v ∷ has-queue o [] ∷ []) (map (λ x. woke (ident x) v) (s .queue o)) (wakes-all n v y)
+  frees-all v y = uncounted (done (pos (length (s .queue o)))) (all-ready o v ∷ has-queue o [] ∷ []) (map (λ x. woke (ident x) v) (s .queue o))
+      (wakes-all n v y)
 
   -- the caller waits
   module _ (w : K .Wish) (c : ℤ) (y : verdict s i o k n ≡ allow n (park w) c) where
     off : holds (ident (entry (s .prio i) i)) (s .queue o) ≡ false
     off = rw (ident-entry (s .prio i) i (g .known i (there s g i o k n h r) .0)) (not-held i (s .queue o) (g .placed o i ∙ rw r))
 
-    seats : length (s .queue o) < maxWaiters → left (allow n (park w) c) ≡ record { num = n; turn = record { code = pos 1; queue = joined (entry (s .prio i) i) (s .queue o); woken = [] } }
+    seats : length (s .queue o) < maxWaiters
+        → left (allow n (park w) c) ≡ record { num = n; turn = record { code = pos 1; queue = joined (entry (s .prio i) i) (s .queue o); woken = [] } }
     seats l = rw (off, lt-ltb (length (s .queue o)) maxWaiters l)
 
     spot : Found (entry (s .prio i) i) (s .queue o)
@@ -164,7 +171,8 @@ module _ {K : Kind} (s : Sys K) (g : Fine s) (i o : ℕ) (k : K .Call) (n : K .N
               λ l.
               by (allow n (park w) c) 1 es y (ap (λ (u : Out (K .Num)). u .turn .code) (seats l))
               (ap (serve s i o (allow n (park w) c)) (seats l)
-              ∙ same _ (puts s es) (λ t. refl) (λ t. refl) (λ t. refl) (upd-same (s .slot) o (object n) h) (λ t. ap (λ (l : List ℕ). upd (s .queue) o l t) (spot .is)));
+              ∙ same _ (puts s es) (λ t. refl) (λ t. refl) (λ t. refl) (upd-same (s .slot) o (object n) h)
+              (λ t. ap (λ (l : List ℕ). upd (s .queue) o l t) (spot .is)));
         }
       where
         es : List (Effect K)

@@ -58,7 +58,8 @@ abbrev says : List (Op rtos) → Op rtos → Answer
 says past x = step (after bare past) x .1
 
 -- a take is answered 1, and its thread waits
-pub takers-wait : (says begun (invoke 7 0 (semCall take)) ≡ done (pos 1)) × (at taken 7 ≡ waiting 0) × (at taken 3 ≡ waiting 0) × (at taken 9 ≡ waiting 0) × (at taken 1 ≡ running)
+pub takers-wait : (says begun (invoke 7 0 (semCall take)) ≡ done (pos 1)) × (at taken 7 ≡ waiting 0) × (at taken 3 ≡ waiting 0) × (at taken 9 ≡ waiting 0)
+    × (at taken 1 ≡ running)
 unfolding maxWaiters
 takers-wait = (refl, refl, refl, refl, refl)
 
@@ -107,7 +108,8 @@ refusals = (refl, refl, refl, refl, refl)
 -- and: a second thread of the same id, a priority that there is not, an object in a slot that is not vacant, a semaphore of limit 0; who waits
 -- or runs already can't be made to run
 pub refusals-too : (says taken (spawn 7 1) ≡ denied einval) × (says taken (spawn 8 32) ≡ denied einval) × (says taken (create 0 aCondvar) ≡ denied einval)
-    × (says taken (create 1 (aSem (record { count = 0; limit = 0 }))) ≡ denied einval) × (says taken (dispatch 7) ≡ denied einval) × (says taken (dispatch 1) ≡ denied einval)
+    × (says taken (create 1 (aSem (record { count = 0; limit = 0 }))) ≡ denied einval) × (says taken (dispatch 7) ≡ denied einval)
+    × (says taken (dispatch 1) ≡ denied einval)
 unfolding maxWaiters
 refusals-too = (refl, refl, refl, refl, refl, refl)
 
@@ -160,7 +162,8 @@ unfolding maxWaiters
 in-memory-taken = record { words = omega arith; room = refl; slot = refl; queue = refl }
 
 -- a reset wakes all three, each with -11, and answers 3; with nobody waiting it answers 0
-pub reset-all : (after bare (invoke 1 0 (semCall reset) ∷ taken) .state 3 ≡ ready eagain) × (after bare (invoke 1 0 (semCall reset) ∷ taken) .state 7 ≡ ready eagain)
+pub reset-all : (after bare (invoke 1 0 (semCall reset) ∷ taken) .state 3 ≡ ready eagain)
+    × (after bare (invoke 1 0 (semCall reset) ∷ taken) .state 7 ≡ ready eagain)
     × (after bare (invoke 1 0 (semCall reset) ∷ taken) .state 9 ≡ ready eagain) × (after bare (invoke 1 0 (semCall reset) ∷ taken) .queue 0 ≡ [])
     × (step (after bare taken) (invoke 1 0 (semCall reset)) .1 ≡ done (pos 3)) × (step (after bare begun) (invoke 1 0 (semCall reset)) .1 ≡ done (pos 0))
 unfolding maxWaiters

@@ -25,9 +25,11 @@ use Rattle.system.proofs.Same.{alike, one-wait, one-wake}
 use Rattle.system.proofs.Bests.{Turnwise, in-turn}
 use Rattle.system.proofs.Sheets.{Fits, Sheet}
 
-module _ {K : Kind} (P : Part futex-kind K) (h : Fits P) (s : Sys K) (g : Fine s) (i o : ℕ) (n : Futex) (e : s .slot o ≡ object (P .num n)) (r : s .state i ≡ running) where
+module _ {K : Kind} (P : Part futex-kind K) (h : Fits P) (s : Sys K) (g : Fine s) (i o : ℕ) (n : Futex) (e : s .slot o ≡ object (P .num n))
+    (r : s .state i ≡ running) where
   -- what it decides, in words of the system
-  says : (k : Call) (d : Verdict Futex (Unit {0})) → decide n (λ t. P .seen (s .wish t)) (map ident (s .queue o)) i k ≡ d → verdict s i o (P .call k) (P .num n) ≡ mapped (P .num) (P .wish) d
+  says : (k : Call) (d : Verdict Futex (Unit {0})) → decide n (λ t. P .seen (s .wish t)) (map ident (s .queue o)) i k ≡ d
+      → verdict s i o (P .call k) (P .num n) ≡ mapped (P .num) (P .wish) d
   says k d z = h .decides n (s .wish) (map ident (s .queue o)) i k ∙ ap (mapped (P .num) (P .wish)) z
 
   pub futex-keeps : FutexRules P step s i o n
@@ -39,13 +41,15 @@ module _ {K : Kind} (P : Part futex-kind K) (h : Fits P) (s : Sys K) (g : Fine s
         differs = λ x z. effects.denies s g i o (P .call (wait x)) (P .num n) e r 10 (says (wait x) (deny eagain) (rw (ne-eqb (n .val) x z)));
         wakes =
             record {
-              first = λ x q z. effects.passes-one s g i o (P .call wakeOne) (P .num n) e r 1 x q z (says wakeOne (allow n (wake (upTo 1) (λ t. ok)) (pos 1)) (rw z));
+              first = λ x q z. effects.passes-one s g i o (P .call wakeOne) (P .num n) e r 1 x q z
+                  (says wakeOne (allow n (wake (upTo 1) (λ t. ok)) (pos 1)) (rw z));
               alone = λ z. effects.stays s g i o (P .call wakeOne) (P .num n) e r 0 (says wakeOne (allow n keep (pos 0)) (rw z));
             };
         wakesAll =
             effects.frees-all s g i o (P .call wakeAll) (P .num n) e r ok
             (says wakeAll (allow n (wake everybody (λ t. ok)) (pos (length (map ident (s .queue o))))) refl);
-        sets = λ x. effects.keeps s g i o (P .call (set x)) (P .num n) e r (P .num (record { val = x })) 0 (says (set x) (allow (record { val = x }) keep ok) refl);
+        sets = λ x. effects.keeps s g i o (P .call (set x)) (P .num n) e r (P .num (record { val = x })) 0
+            (says (set x) (allow (record { val = x }) keep ok) refl);
       }
 
 futex-fixes : {K : Kind} (P : Part futex-kind K) (f g : Kernel K) (s : Sys K) (i o : ℕ) (n : Futex) (k : Call) → FutexRules P f s i o n → FutexRules P g s i o n

@@ -8,20 +8,20 @@ use lib.IntN.{ℤ, pos, negsuc}
 use lib.ListN.{length}
 use borrow.Author.Tests.{eq-eqb, ne-eqb, eqb-true, eqb-false}
 use Rattle.thread.specs.Code.{ok, einval}
-use Rattle.thread.specs.Priority.{valid}
 use Rattle.thread.specs.Caller.{callerCode}
 use Rattle.wait_queue.specs.Queue.{maxWaiters, entry, ident, holds}
 use Rattle.kind.specs.Verdict.{gone, keep, park, wake, Verdict, deny, allow}
 use Rattle.kind.specs.Kind.{Kind, Lawful, Booked, balanced}
 use Rattle.kind.specs.Object.{Out, thread, carried}
 use Rattle.kind.proofs.Picks.{any-map, gone-map}
-use Rattle.system.specs.System.{number, Slot, vacant, object, Sys, Op, invoke, both, dispatch, yield, expire, spawn, create, State, absent, running, ready, waiting, Woken, Reply, reply, accept, refuse, free, gone-by, deed, woken, unless, serve, outcome, verdict, visited, called, dispatched, yielded, expired, born, placed, answers, paired, step, after}
+use Rattle.system.specs.System.{number, Slot, vacant, object, Sys, Op, invoke, both, dispatch, yield, expire, spawn, create, Woken, Reply, reply, accept, refuse, free, deed, woken, unless, serve, outcome, verdict, visited, called, placed, answers, paired, step, after}
 use Rattle.system.specs.Rules.{Fine, Start}
 use Rattle.system.specs.Run.{run}
 use Rattle.system.specs.Ledger as notes
 use Rattle.system.specs.Ledger.{Note, made, entered, ledger, noted, allowed, callNote, Ledgers}
 use Rattle.system.proofs.Calls.{barred, granted, called-fine}
 use Rattle.system.proofs.Steps.{always}
+use Rattle.system.proofs.Quiet.{OnThread, quiet}
 
 -- who was woken, as threads
 abbrev names : List Woken → List ℕ
@@ -45,7 +45,8 @@ module _ {K : Kind} (law : Lawful K) (s : Sys K) (g : Fine s) (i o : ℕ) (k : K
 
     by-verdict : (z : s .slot o ≡ object n) (d : Verdict (K .Num) (K .Wish)) → Booked K n (map ident q) i k d
         → unless (carried (thread i (s .prio i) 1) d n q .turn .code) s (serve s i o d (carried (thread i (s .prio i) 1) d n q)) .slot o
-        ≡ ledger (note (carried (thread i (s .prio i) 1) d n q .turn .code) (unless (carried (thread i (s .prio i) 1) d n q .turn .code) [] (woken (deed d) q)) ++ l)
+        ≡ ledger (note (carried (thread i (s .prio i) 1) d n q .turn .code)
+        (unless (carried (thread i (s .prio i) 1) d n q .turn .code) [] (woken (deed d) q)) ++ l)
     by-verdict z (deny (pos c)) b = absurd b
     by-verdict z (deny (negsuc c)) b = z ∙ h
     by-verdict z (allow m keep (negsuc c)) b = z ∙ h
@@ -57,8 +58,10 @@ module _ {K : Kind} (law : Lawful K) (s : Sys K) (g : Fine s) (i o : ℕ) (k : K
     by-verdict z (allow m (park x) c) b = go (holds (ident (entry (s .prio i) i)) q) (ltb (length q) maxWaiters) refl refl
       where
         go : (y w : Bool) → holds (ident (entry (s .prio i) i)) q ≡ y → ltb (length q) maxWaiters ≡ w
-            → unless (carried (thread i (s .prio i) 1) (allow m (park x) c) n q .turn .code) s (serve s i o (allow m (park x) c) (carried (thread i (s .prio i) 1) (allow m (park x) c) n q)) .slot o
-            ≡ ledger (note (carried (thread i (s .prio i) 1) (allow m (park x) c) n q .turn .code) (unless (carried (thread i (s .prio i) 1) (allow m (park x) c) n q .turn .code) [] []) ++ l)
+            → unless (carried (thread i (s .prio i) 1) (allow m (park x) c) n q .turn .code) s
+            (serve s i o (allow m (park x) c) (carried (thread i (s .prio i) 1) (allow m (park x) c) n q)) .slot o
+            ≡ ledger (note (carried (thread i (s .prio i) 1) (allow m (park x) c) n q .turn .code)
+            (unless (carried (thread i (s .prio i) 1) (allow m (park x) c) n q .turn .code) [] []) ++ l)
         go true w d e = rw d (z ∙ h)
         go false true d e = rw (d, e, eq-eqb o o refl) (posted m 1 [] b)
         go false false d e = rw (d, e) (z ∙ h)
@@ -72,14 +75,16 @@ module _ {K : Kind} (law : Lawful K) (s : Sys K) (g : Fine s) (i o : ℕ) (k : K
       go (object n) z = by (callerCode (s .prio i) (number (s .state i))) refl
         where
           As : Out (K .Num) → Type 0
-          As u = unless (u .turn .code) s (serve s i o (verdict s i o k n) u) .slot o ≡ ledger (note (u .turn .code) (unless (u .turn .code) [] (woken (deed (verdict s i o k n)) (s .queue o))) ++ l)
+          As u = unless (u .turn .code) s (serve s i o (verdict s i o k n) u) .slot o
+              ≡ ledger (note (u .turn .code) (unless (u .turn .code) [] (woken (deed (verdict s i o k n)) (s .queue o))) ++ l)
 
           by : (c : ℤ) → callerCode (s .prio i) (number (s .state i)) ≡ c
               → visited (object n) s i o k .0 .slot o ≡ ledger (note (visited (object n) s i o k .1) (visited (object n) s i o k .2) ++ l)
           by (negsuc c) y = subst As (sym (barred s i o k n (g .formed o n z) c y)) h
           by (pos c) y =
               subst As (sym (granted s i o k n (g .formed o n z) c y))
-              (by-verdict n (sym z ∙ h) z (verdict s i o k n) (law .booked n (s .wish) (map ident (s .queue o)) i k (rw (any-map ident (s .queue o)) (g .formed o n z))))
+              (by-verdict n (sym z ∙ h) z (verdict s i o k n)
+              (law .booked n (s .wish) (map ident (s .queue o)) i k (rw (any-map ident (s .queue o)) (g .formed o n z))))
 
 -- the others
 module _ {K : Kind} (s : Sys K) (i a : ℕ) (k : K .Call) (o : ℕ) (e : a ≡ o → ⊥) where
@@ -99,7 +104,8 @@ called-books : {K : Kind} → Lawful K → (s : Sys K) → Fine s → (i a : ℕ
     → called s i a k .0 .slot o ≡ ledger (cond (eqb a o) (noted (reply (called s i a k .1)) (λ r. notes.called i k r (names (called s i a k .2)))) [] ++ l)
 called-books {K} law s g i a k o l h = go (eqb a o) refl
   where
-    go : (b : Bool) → eqb a o ≡ b → called s i a k .0 .slot o ≡ ledger (cond b (noted (reply (called s i a k .1)) (λ r. notes.called i k r (names (called s i a k .2)))) [] ++ l)
+    go : (b : Bool) → eqb a o ≡ b → called s i a k .0 .slot o
+        ≡ ledger (cond b (noted (reply (called s i a k .1)) (λ r. notes.called i k r (names (called s i a k .2)))) [] ++ l)
     go true e = rw (sym (eqb-true a o e)) (here law s g i a k l (ap (s .slot) (eqb-true a o e) ∙ h))
     go false e = there s i a k o (eqb-false a o e) ∙ h
 
@@ -107,7 +113,11 @@ module _ {K : Kind} (law : Lawful K) (s : Sys K) (b : Start s) where
   abbrev noteOf : List (Op K) → Op K → ℕ → List (Note K)
   noteOf past x o = notes.notesOf (run step s) o past x
 
-  next : (past : List (Op K)) (o : ℕ) (l : List (Note K)) → after s past .slot o ≡ ledger l → (x : Op K) → step (after s past) x .0 .slot o ≡ ledger (noteOf past x o ++ l)
+  still : (past : List (Op K)) (o : ℕ) (l : List (Note K)) → after s past .slot o ≡ ledger l → (x : Op K) → OnThread x → step (after s past) x .0 .slot o ≡ ledger l
+  still past o l h x t = ap (λ (f : ℕ → Slot (K .Num)). f o) (quiet (after s past) x t .slots) ∙ h
+
+  next : (past : List (Op K)) (o : ℕ) (l : List (Note K)) → after s past .slot o ≡ ledger l → (x : Op K)
+      → step (after s past) x .0 .slot o ≡ ledger (noteOf past x o ++ l)
   next past o l h (invoke i a k) = called-books law (after s past) (always law s b past) i a k o l h
   next past o l h (both i a j d k) = go (eqb a d)
     where
@@ -122,7 +132,8 @@ module _ {K : Kind} (law : Lawful K) (s : Sys K) (b : Start s) where
 
       two : called (called u i a j .0) i d k .0 .slot o ≡ ledger ((second ++ first) ++ l)
       two =
-          called-books law (called u i a j .0) (called-fine law u (always law s b past) i a j) i d k o (first ++ l) (called-books law u (always law s b past) i a j o l h)
+          called-books law (called u i a j .0) (called-fine law u (always law s b past) i a j) i d k o (first ++ l)
+          (called-books law u (always law s b past) i a j o l h)
           ∙ ap (ledger {K = K}) (sym (append-assoc second first l))
 
       either : (z : ℤ) → unless z u (called (called u i a j .0) i d k .0) .slot o ≡ ledger (allowed (reply z) (second ++ first) ++ l)
@@ -133,42 +144,20 @@ module _ {K : Kind} (law : Lawful K) (s : Sys K) (b : Start s) where
           ≡ ledger (allowed (cond {A = Reply K} c (refuse u einval) (paired u i a j d k) .1) (second ++ first) ++ l)
       go true = h
       go false = either (answers u i a j d k)
-  next past o l h (dispatch i) = go (after s past .state i)
-    where
-      go : (x : State) → dispatched x (after s past) i .0 .slot o ≡ ledger l
-      go absent = h
-      go running = h
-      go (ready r) = h
-      go (waiting y) = h
-  next past o l h (yield i) = go (after s past .state i)
-    where
-      go : (x : State) → yielded x (after s past) i .0 .slot o ≡ ledger l
-      go absent = h
-      go running = h
-      go (ready r) = h
-      go (waiting y) = h
-  next past o l h (expire i) = go (after s past .state i)
-    where
-      go : (x : State) → expired x (after s past) i .0 .slot o ≡ ledger l
-      go absent = h
-      go running = h
-      go (ready r) = h
-      go (waiting y) = h
-  next past o l h (spawn i p) = go (gone-by (after s past .state i)) (ltb i 4294967296) (valid p)
-    where
-      go : (x y z : Bool) → cond {A = Reply K} x (cond y (cond z (accept (born (after s past) i p) ok) (refuse (after s past) einval)) (refuse (after s past) einval)) (refuse (after s past) einval) .0 .slot o ≡ ledger l
-      go true true true = h
-      go true true false = h
-      go true false z = h
-      go false y z = h
+  next past o l h (dispatch i) = still past o l h (dispatch i) tt
+  next past o l h (yield i) = still past o l h (yield i) tt
+  next past o l h (expire i) = still past o l h (expire i) tt
+  next past o l h (spawn i p) = still past o l h (spawn i p) tt
   next past o l h (create a n) = go (free (after s past .slot a)) (K .new n) (eqb a o) refl
     where
       same : (z : Bool) → after s past .slot o ≡ ledger (cond z [] [] ++ l)
       same true = h
       same false = h
 
-      go : (x y z : Bool) → eqb a o ≡ z → cond {A = Reply K} x (cond y (accept (placed (after s past) a n) ok) (refuse (after s past) einval)) (refuse (after s past) einval) .0 .slot o
-          ≡ ledger (cond z (noted {K = K} (cond {A = Reply K} x (cond y (accept (placed (after s past) a n) ok) (refuse (after s past) einval)) (refuse (after s past) einval) .1) (λ r. made n)) [] ++ l)
+      go : (x y z : Bool) → eqb a o ≡ z
+          → cond {A = Reply K} x (cond y (accept (placed (after s past) a n) ok) (refuse (after s past) einval)) (refuse (after s past) einval) .0 .slot o
+          ≡ ledger (cond z (noted {K = K} (cond {A = Reply K} x (cond y (accept (placed (after s past) a n) ok) (refuse (after s past) einval))
+          (refuse (after s past) einval) .1) (λ r. made n)) [] ++ l)
       go true true true e = rw e
       go true true false e = rw e h
       go true false z e = same z

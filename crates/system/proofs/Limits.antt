@@ -71,7 +71,8 @@ module _ (K : Kind) (Inv : K .Num → Type 0) (starts : (n : K .Num) → K .new 
     notes-sure past (both i a j d k) = go (R .answer past (both i a j d k))
       where
         go : (z : Answer) → Sure (allowed z (callNote R o (invoke i a j ∷ past) i d k ++ callNote R o past i a j))
-        go (done r) = sure-both (callNote R o (invoke i a j ∷ past) i d k) (callNote R o past i a j) (call-sure (invoke i a j ∷ past) i d k) (call-sure past i a j)
+        go (done r) = sure-both (callNote R o (invoke i a j ∷ past) i d k) (callNote R o past i a j) (call-sure (invoke i a j ∷ past) i d k)
+            (call-sure past i a j)
         go (denied r) = tt
     notes-sure past (dispatch i) = tt
     notes-sure past (yield i) = tt
@@ -80,7 +81,8 @@ module _ (K : Kind) (Inv : K .Num → Type 0) (starts : (n : K .Num) → K .new 
     notes-sure past (create a n) = go (eqb a o) (system.free (after s past .slot a)) (K .new n) refl
       where
         go : (c x y : Bool) → K .new n ≡ y
-            → Sure (cond c (noted {K = K} (cond {A = Reply K} x (cond y (accept (placed (after s past) a n) ok) (refuse (after s past) einval)) (refuse (after s past) einval) .1) (λ r. made n)) [])
+            → Sure (cond c (noted {K = K} (cond {A = Reply K} x (cond y (accept (placed (after s past) a n) ok) (refuse (after s past) einval))
+            (refuse (after s past) einval) .1) (λ r. made n)) [])
         go true true true e = (e, tt)
         go true true false e = tt
         go true false y e = tt
@@ -123,7 +125,8 @@ never e = absurd (let z : _≡_ {A = ℕ} 0 1 = cc in omega arith)
 small-as : (m n : rtos .Num) → Small m → balanced m ≡ balanced n → Small n
 small-as m n h e = let z : m ≡ n = cc in subst Small z h
 
-deep : {N L : Type 0} (f : N → L) (g : L → rtos .Num) → ((n : N) → Small (g (f n))) → (x : Balance N) (m : rtos .Num) → balance g (balance f x) ≡ balanced m → Small m
+deep : {N L : Type 0} (f : N → L) (g : L → rtos .Num) → ((n : N) → Small (g (f n))) → (x : Balance N) (m : rtos .Num)
+    → balance g (balance f x) ≡ balanced m → Small m
 deep f g h (balanced y) m e = small-as (g (f y)) m (h y) e
 deep f g h impossible m e = never e
 

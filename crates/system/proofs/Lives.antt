@@ -23,6 +23,7 @@ use Rattle.system.specs.System as system
 use Rattle.system.specs.Rules.{Fine}
 use Rattle.system.specs.Life.{Calls, direct, former, latter, Life, stays, began, woken, late, back, aside, born}
 use Rattle.system.proofs.Times.{held, times-pick, on-is, distinct}
+use Rattle.system.proofs.Quiet.{quiet}
 use Rattle.system.proofs.Calls.{runs, barred, granted, called-fine}
 
 never : {A : Type 0} {x y : ℤ} → done x ≡ denied y → A
@@ -93,37 +94,14 @@ silent {K} s (invoke i o k) c h = go (s .slot o) h
     go (object n) h = none (outcome s i o k n .turn .code) c (system.woken (deed (verdict s i o k n)) (s .queue o)) h
 silent {K} s (both i a j b k) c h = go (eqb a b) h
   where
-    go : (y : Bool) → cond {A = Reply K} y (refuse s einval) (paired s i a j b k) .1 ≡ denied c → cond {A = Reply K} y (refuse s einval) (paired s i a j b k) .2 ≡ []
+    go : (y : Bool) → cond {A = Reply K} y (refuse s einval) (paired s i a j b k) .1 ≡ denied c
+        → cond {A = Reply K} y (refuse s einval) (paired s i a j b k) .2 ≡ []
     go true h = refl
     go false h = none (answers s i a j b k) c (called s i a j .2 ++ called (called s i a j .0) i b k .2) h
-silent s (dispatch i) c h = go (s .state i)
-  where
-    go : (y : State) → dispatched y s i .2 ≡ []
-    go absent = refl
-    go running = refl
-    go (ready r) = refl
-    go (waiting o) = refl
-silent s (yield i) c h = go (s .state i)
-  where
-    go : (y : State) → yielded y s i .2 ≡ []
-    go absent = refl
-    go running = refl
-    go (ready r) = refl
-    go (waiting o) = refl
-silent s (expire i) c h = go (s .state i)
-  where
-    go : (y : State) → expired y s i .2 ≡ []
-    go absent = refl
-    go running = refl
-    go (ready r) = refl
-    go (waiting o) = refl
-silent s (spawn i p) c h = go (gone-by (s .state i)) (ltb i 4294967296) (valid p)
-  where
-    go : (a b d : Bool) → cond a (cond b (cond d (accept (system.born s i p) ok) (refuse s einval)) (refuse s einval)) (refuse s einval) .2 ≡ []
-    go true true true = refl
-    go true true false = refl
-    go true false d = refl
-    go false b d = refl
+silent s (dispatch i) c h = quiet s (dispatch i) tt .nobody
+silent s (yield i) c h = quiet s (yield i) tt .nobody
+silent s (expire i) c h = quiet s (expire i) tt .nobody
+silent s (spawn i p) c h = quiet s (spawn i p) tt .nobody
 silent {K} s (create o n) c h = go (free (s .slot o)) (K .new n)
   where
     go : (a b : Bool) → cond a (cond b (accept (placed s o n) ok) (refuse s einval)) (refuse s einval) .2 ≡ []
@@ -151,7 +129,8 @@ module _ {K : Kind} (law : Lawful K) (s : Sys K) (g : Fine s) (i o : ℕ) (k : K
   q = s .queue o
 
   by-verdict : (d : Verdict (K .Num) (K .Wish)) → s .state i ≡ running → Right K (s .wish) (map ident q) i k d
-      → Does K (s .wish) i o k t (s .state t) (unless (carried (thread i (s .prio i) 1) d n q .turn .code) s (serve s i o d (carried (thread i (s .prio i) 1) d n q)) .state t)
+      → Does K (s .wish) i o k t (s .state t) (unless (carried (thread i (s .prio i) 1) d n q .turn .code) s
+      (serve s i o d (carried (thread i (s .prio i) 1) d n q)) .state t)
   by-verdict (deny (negsuc c)) r a = nothing refl
   by-verdict (deny (pos c)) r a = nothing refl
   by-verdict (allow m keep (negsuc c)) r a = nothing refl
@@ -172,12 +151,14 @@ module _ {K : Kind} (law : Lawful K) (s : Sys K) (g : Fine s) (i o : ℕ) (k : K
       joins false e = nothing refl
 
       go : (y z : Bool) → holds (ident (entry (s .prio i) i)) q ≡ y → ltb (length q) maxWaiters ≡ z
-          → Does K (s .wish) i o k t (s .state t) (unless (carried (thread i (s .prio i) 1) (allow m (park x) c) n q .turn .code) s (serve s i o (allow m (park x) c) (carried (thread i (s .prio i) 1) (allow m (park x) c) n q)) .state t)
+          → Does K (s .wish) i o k t (s .state t) (unless (carried (thread i (s .prio i) 1) (allow m (park x) c) n q .turn .code) s
+          (serve s i o (allow m (park x) c) (carried (thread i (s .prio i) 1) (allow m (park x) c) n q)) .state t)
       go true z u v = rw u (nothing refl)
       go false true u v = rw (u, v) (joins (eqb i t) refl)
       go false false u v = rw (u, v) (nothing refl)
 
-pub called-does : {K : Kind} → Lawful K → (s : Sys K) → Fine s → (i o : ℕ) (k : K .Call) (t : ℕ) → Does K (s .wish) i o k t (s .state t) (called s i o k .0 .state t)
+pub called-does : {K : Kind} → Lawful K → (s : Sys K) → Fine s → (i o : ℕ) (k : K .Call) (t : ℕ)
+    → Does K (s .wish) i o k t (s .state t) (called s i o k .0 .state t)
 called-does {K} law s g i o k t = go (s .slot o) refl
   where
     go : (x : Slot (K .Num)) → s .slot o ≡ x → Does K (s .wish) i o k t (s .state t) (visited x s i o k .0 .state t)
@@ -189,7 +170,8 @@ called-does {K} law s g i o k t = go (s .slot o) refl
         by (pos c) z =
             rw (granted s i o k n (g .formed o n h) c z)
             (by-verdict law s g i o k n h t (verdict s i o k n) (runs (s .prio i) (s .state i) c z)
-            (law .right n (s .wish) (map ident (s .queue o)) i k (rw (any-map ident (s .queue o)) (g .formed o n h)) (distinct (s .queue o) (g .queues o .single)) (g .kept o n h)))
+            (law .right n (s .wish) (map ident (s .queue o)) i k (rw (any-map ident (s .queue o)) (g .formed o n h))
+            (distinct (s .queue o) (g .queues o .single)) (g .kept o n h)))
 
 -- a call changes no wish but its caller's
 called-wish : {K : Kind} (s : Sys K) (i o : ℕ) (k : K .Call) (t : ℕ) → (t ≡ i → ⊥) → called s i o k .0 .wish t ≡ s .wish t
@@ -247,7 +229,8 @@ module _ {K : Kind} (law : Lawful K) (s : Sys K) (g : Fine s) (t : ℕ) where
       either : (z : ℤ) → Life K (s .wish) (both i a j b k) (reply z) t (s .state t) (unless z s (called (called s i a j .0) i b k .0) .state t)
       either (negsuc c) = stays
       either (pos c) =
-          together (s .wish) (both i a j b k) (done (pos c)) i t (called s i a j .0 .wish) (λ n. called-wish s i a j t n) former latter (called-does law s g i a j t)
+          together (s .wish) (both i a j b k) (done (pos c)) i t (called s i a j .0 .wish) (λ n. called-wish s i a j t n) former latter
+          (called-does law s g i a j t)
           (called-does law (called s i a j .0) (called-fine law s g i a j) i b k t)
 
       go : (y : Bool) → Life K (s .wish) (both i a j b k) (cond {A = Reply K} y (refuse s einval) (paired s i a j b k) .1) t (s .state t)
@@ -278,7 +261,8 @@ module _ {K : Kind} (law : Lawful K) (s : Sys K) (g : Fine s) (t : ℕ) where
       go (waiting o) h = stays
   lives (expire i) = go (s .state i) refl
     where
-      at : (o : ℕ) → s .state i ≡ waiting o → (c : Bool) → eqb i t ≡ c → Life K (s .wish) (expire i) (done ok) t (s .state t) (cond c (ready eagain) (s .state t))
+      at : (o : ℕ) → s .state i ≡ waiting o → (c : Bool) → eqb i t ≡ c
+          → Life K (s .wish) (expire i) (done ok) t (s .state t) (cond c (ready eagain) (s .state t))
       at o h true e = let y : s .state t ≡ waiting o = ap (s .state) (sym (eqb-true i t e)) ∙ h in rw (y, eqb-true i t e) late
       at o h false e = stays
 
@@ -299,7 +283,8 @@ module _ {K : Kind} (law : Lawful K) (s : Sys K) (g : Fine s) (t : ℕ) where
       at h true e = let y : s .state t ≡ absent = ap (s .state) (sym (eqb-true i t e)) ∙ h in rw (y, eqb-true i t e) born
       at h false e = stays
 
-      go : (a b d : Bool) → gone-by (s .state i) ≡ a → ltb i 4294967296 ≡ b → valid p ≡ d → Life K (s .wish) (spawn i p) (spawned s i p .1) t (s .state t) (spawned s i p .0 .state t)
+      go : (a b d : Bool) → gone-by (s .state i) ≡ a → ltb i 4294967296 ≡ b → valid p ≡ d
+          → Life K (s .wish) (spawn i p) (spawned s i p .1) t (s .state t) (spawned s i p .0 .state t)
       go true true true x y z = rw (x, y, z) (at (nobody (s .state i) x) (eqb i t) refl)
       go true true false x y z = rw (x, y, z) stays
       go true false d x y z = rw (x, y) stays

@@ -26,25 +26,29 @@ told past o = ledger (notes (run step empty) o past)
 -- the newest operation in front
 abbrev locked : List (Op rtos)
 locked =
-    invoke 2 7 (mutexCall lock) ∷ invoke 1 7 (mutexCall lock) ∷ invoke 1 7 (mutexCall lock) ∷ create 8 aCondvar ∷ create 7 (aMutex free) ∷ dispatch 2 ∷ spawn 2 3
+    invoke 2 7 (mutexCall lock) ∷ invoke 1 7 (mutexCall lock) ∷ invoke 1 7 (mutexCall lock) ∷ create 8 aCondvar ∷ create 7
+    (aMutex free) ∷ dispatch 2 ∷ spawn 2 3
     ∷ dispatch 1 ∷ spawn 1 5 ∷ []
 
 abbrev passed : List (Op rtos)
 passed = waitsWith 1 7 8 ∷ invoke 1 7 (mutexCall unlock) ∷ locked
 
-pub two : (after empty locked .slot 7 ≡ object (aMutex (record { owner = thread 1; count = 2 }))) × (told locked 7 ≡ object (aMutex (record { owner = thread 1; count = 2 }))) × (after empty locked .state 2 ≡ waiting 7)
+pub two : (after empty locked .slot 7 ≡ object (aMutex (record { owner = thread 1; count = 2 })))
+    × (told locked 7 ≡ object (aMutex (record { owner = thread 1; count = 2 }))) × (after empty locked .state 2 ≡ waiting 7)
 unfolding maxWaiters
 two = (refl, refl, refl)
 
 -- the wait hands the mutex to 2, which has one lock
-pub one : (after empty passed .slot 7 ≡ object (aMutex (taken 2))) × (told passed 7 ≡ object (aMutex (taken 2))) × (after empty passed .state 2 ≡ ready ok) × (after empty passed .state 1 ≡ waiting 8)
+pub one : (after empty passed .slot 7 ≡ object (aMutex (taken 2))) × (told passed 7 ≡ object (aMutex (taken 2)))
+    × (after empty passed .state 2 ≡ ready ok) × (after empty passed .state 1 ≡ waiting 8)
 unfolding maxWaiters
 one = (refl, refl, refl, refl)
 
 -- the thread 4 (priority 5) waits at the condition variable, nobody wants the mutex; then 1 (5) has it, and 3 (5) and 2 (3) want it
 abbrev alone : List (Op rtos)
 alone =
-    waitsWith 4 7 8 ∷ invoke 4 7 (mutexCall lock) ∷ create 8 aCondvar ∷ create 7 (aMutex free) ∷ dispatch 4 ∷ dispatch 3 ∷ dispatch 2 ∷ dispatch 1 ∷ spawn 4 5 ∷ spawn 3 5
+    waitsWith 4 7 8 ∷ invoke 4 7 (mutexCall lock) ∷ create 8 aCondvar ∷ create 7
+    (aMutex free) ∷ dispatch 4 ∷ dispatch 3 ∷ dispatch 2 ∷ dispatch 1 ∷ spawn 4 5 ∷ spawn 3 5
     ∷ spawn 2 3 ∷ spawn 1 5 ∷ []
 
 abbrev wanted : List (Op rtos)

@@ -40,12 +40,14 @@ made m e = go (m .owner) (eqb (m .count) 0) refl refl e
     go nobody false x y e = clash (sym e)
     go (thread i) b x y e = clash (sym e)
 
-module _ {K : Kind} (P : Part mutex-kind K) (h : Fits P) (s : Sys K) (g : Fine s) (i o : ℕ) (m : Mutex) (e : s .slot o ≡ object (P .num m)) (r : s .state i ≡ running) where
+module _ {K : Kind} (P : Part mutex-kind K) (h : Fits P) (s : Sys K) (g : Fine s) (i o : ℕ) (m : Mutex) (e : s .slot o ≡ object (P .num m))
+    (r : s .state i ≡ running) where
   abbrev q : List ℕ
   q = map ident (s .queue o)
 
   -- what it decides, in words of the system
-  says : (k : Call) (d : Verdict Mutex (Unit {0})) → decide m (λ t. P .seen (s .wish t)) q i k ≡ d → verdict s i o (P .call k) (P .num m) ≡ mapped (P .num) (P .wish) d
+  says : (k : Call) (d : Verdict Mutex (Unit {0})) → decide m (λ t. P .seen (s .wish t)) q i k ≡ d
+      → verdict s i o (P .call k) (P .num m) ≡ mapped (P .num) (P .wish) d
   says k d z = h .decides m (s .wish) q i k ∙ ap (mapped (P .num) (P .wish)) z
 
   abbrev mine : Owner → ℕ → K .Num
@@ -58,7 +60,8 @@ module _ {K : Kind} (P : Part mutex-kind K) (h : Fits P) (s : Sys K) (g : Fine s
         again =
             λ z l. effects.keeps s g i o (P .call lock) (P .num m) e r (mine (thread i) (suc (m .count))) 0
             (says lock (allow (record { owner = thread i; count = suc (m .count) }) keep ok) (rw (z, eq-eqb i i refl, lt-ltb (m .count) maxCount l)));
-        often = λ z l. effects.denies s g i o (P .call lock) (P .num m) e r 138 (says lock (deny eoverflow) (rw (z, eq-eqb i i refl, le-ltb (m .count) maxCount l)));
+        often = λ z l. effects.denies s g i o (P .call lock) (P .num m) e r 138
+            (says lock (deny eoverflow) (rw (z, eq-eqb i i refl, le-ltb (m .count) maxCount l)));
         theirs = λ j z n. effects.waits s g i o (P .call lock) (P .num m) e r (P .wish tt) turn.waits (says lock (allow m (park tt) turn.waits) (off j z n));
       }
     where
@@ -72,7 +75,8 @@ module _ {K : Kind} (P : Part mutex-kind K) (h : Fits P) (s : Sys K) (g : Fine s
         again =
             λ z l. effects.keeps s g i o (P .call tryLock) (P .num m) e r (mine (thread i) (suc (m .count))) 0
             (says tryLock (allow (record { owner = thread i; count = suc (m .count) }) keep ok) (rw (z, eq-eqb i i refl, lt-ltb (m .count) maxCount l)));
-        often = λ z l. effects.denies s g i o (P .call tryLock) (P .num m) e r 138 (says tryLock (deny eoverflow) (rw (z, eq-eqb i i refl, le-ltb (m .count) maxCount l)));
+        often = λ z l. effects.denies s g i o (P .call tryLock) (P .num m) e r 138
+            (says tryLock (deny eoverflow) (rw (z, eq-eqb i i refl, le-ltb (m .count) maxCount l)));
         theirs = λ j z n. effects.denies s g i o (P .call tryLock) (P .num m) e r 15 (says tryLock (deny ebusy) (rw (z, ne-eqb j i n)));
       }
 
@@ -84,7 +88,8 @@ module _ {K : Kind} (P : Part mutex-kind K) (h : Fits P) (s : Sys K) (g : Fine s
         nested =
             λ z l. effects.keeps s g i o (P .call unlock) (P .num m) e r (mine (thread i) (m .count - 1)) 0
             (says unlock (allow (record { owner = thread i; count = m .count - 1 }) keep released) (rw (z, eq-eqb i i refl, lt-ltb 1 (m .count) l)));
-        last = λ z c w. effects.keeps s g i o (P .call unlock) (P .num m) e r (mine nobody 0) 1 (says unlock (allow free keep unlocked) (rw (z, eq-eqb i i refl, c, w)));
+        last = λ z c w. effects.keeps s g i o (P .call unlock) (P .num m) e r (mine nobody 0) 1
+            (says unlock (allow free keep unlocked) (rw (z, eq-eqb i i refl, c, w)));
         passed =
             λ z c x l w. effects.wakes-one s g i o (P .call unlock) (P .num m) e r (mine (thread (ident x)) 1) 2 x l w
             (says unlock (allow (taken (ident x)) (wake (upTo 1) (λ t. ok)) transferred) (rw (z, eq-eqb i i refl, c, w)));
@@ -95,8 +100,10 @@ module _ {K : Kind} (P : Part mutex-kind K) (h : Fits P) (s : Sys K) (g : Fine s
       record {
         free = λ z. effects.denies s g i o (P .call release) (P .num m) e r 21 (says release (deny einval) (rw z));
         theirs = λ j z n. effects.denies s g i o (P .call release) (P .num m) e r 0 (says release (deny eperm) (rw (z, ne-eqb j i n)));
-        nested = λ z l. effects.denies s g i o (P .call release) (P .num m) e r 44 (says release (deny edeadlk) (rw (z, eq-eqb i i refl, lt-ltb 1 (m .count) l)));
-        last = λ z c w. effects.keeps s g i o (P .call release) (P .num m) e r (mine nobody 0) 1 (says release (allow free keep unlocked) (rw (z, eq-eqb i i refl, c, w)));
+        nested = λ z l. effects.denies s g i o (P .call release) (P .num m) e r 44
+            (says release (deny edeadlk) (rw (z, eq-eqb i i refl, lt-ltb 1 (m .count) l)));
+        last = λ z c w. effects.keeps s g i o (P .call release) (P .num m) e r (mine nobody 0) 1
+            (says release (allow free keep unlocked) (rw (z, eq-eqb i i refl, c, w)));
         passed =
             λ z c x l w. effects.wakes-one s g i o (P .call release) (P .num m) e r (mine (thread (ident x)) 1) 2 x l w
             (says release (allow (taken (ident x)) (wake (upTo 1) (λ t. ok)) transferred) (rw (z, eq-eqb i i refl, c, w)));
@@ -114,7 +121,8 @@ module _ {K : Kind} (P : Part mutex-kind K) (f g : Kernel K) (s : Sys K) (i o : 
       go nobody e = a .free e ∙ sym (b .free e)
       go (thread j) e =
           ⊎-elim
-          (λ z. let y : m .owner ≡ thread i = e ∙ ap thread z in ⊎-elim (λ l. a .again y l ∙ sym (b .again y l)) (λ l. a .often y l ∙ sym (b .often y l)) (under (m .count) maxCount))
+          (λ z. let y : m .owner ≡ thread i = e ∙ ap thread z in ⊎-elim (λ l. a .again y l ∙ sym (b .again y l)) (λ l. a .often y l ∙ sym (b .often y l))
+          (under (m .count) maxCount))
           (λ z. t (a .theirs j e z) (b .theirs j e z))
           (alike j i)
 
@@ -123,7 +131,8 @@ module _ {K : Kind} (P : Part mutex-kind K) (f g : Kernel K) (s : Sys K) (i o : 
     locked : m .owner ≡ thread i → 0 < m .count
     locked e = ltb-true 0 (m .count) (rw e at w)
 
-    one-unlock : (k : Call) {E F : Type 0} → (E → F → f s (invoke i o (P .call k)) ≡ g s (invoke i o (P .call k))) → Unlocks P f s i o m k E → Unlocks P g s i o m k F
+    one-unlock : (k : Call) {E F : Type 0} → (E → F → f s (invoke i o (P .call k)) ≡ g s (invoke i o (P .call k))) → Unlocks P f s i o m k E
+        → Unlocks P g s i o m k F
         → f s (invoke i o (P .call k)) ≡ g s (invoke i o (P .call k))
     one-unlock k t a b = go (m .owner) refl
       where

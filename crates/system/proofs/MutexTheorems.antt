@@ -44,15 +44,18 @@ module _ {K : Kind} (P : Part mutex-kind K) (h : Fits P) (s : Sys K) (g : Fine s
   apart : (i : ℕ) → m .owner ≡ thread i → s .state i ≡ waiting o → ⊥
   apart i z w =
       let b : mutex-kind .Blocked m i (P .seen (s .wish i)) =
-      h .blocks m i (s .wish i) (owed (λ t. K .Blocked (P .num m) t (s .wish t)) i (s .queue o) (held-of i (s .queue o) (g .placed o i ∙ rw (w, eq-eqb o o refl))) (g .kept o (P .num m) e)) in
+      h .blocks m i (s .wish i) (owed (λ t. K .Blocked (P .num m) t (s .wish t)) i (s .queue o)
+      (held-of i (s .queue o) (g .placed o i ∙ rw (w, eq-eqb o o refl))) (g .kept o (P .num m) e)) in
       (rw z at b) refl
 
   -- whose lock is answered 0 owns it, if nobody is answered 0 where another owns it
-  one : (i : ℕ) (k : Call) {E : Type 0} → Locks P step s i o m k E → (E → step s (invoke i o (P .call k)) .1 ≡ done ok → ⊥) → step s (invoke i o (P .call k)) .1 ≡ done ok
+  one : (i : ℕ) (k : Call) {E : Type 0} → Locks P step s i o m k E → (E → step s (invoke i o (P .call k)) .1 ≡ done ok → ⊥)
+      → step s (invoke i o (P .call k)) .1 ≡ done ok
       → Owns P (step s (invoke i o (P .call k)) .0) o i
   one i k l off z = go (m .owner) refl
     where
-      owns : (c : ℕ) → 0 < c → step s (invoke i o (P .call k)) .0 .slot o ≡ object (P .num (record { owner = thread i; count = c })) → Owns P (step s (invoke i o (P .call k)) .0) o i
+      owns : (c : ℕ) → 0 < c → step s (invoke i o (P .call k)) .0 .slot o ≡ object (P .num (record { owner = thread i; count = c }))
+          → Owns P (step s (invoke i o (P .call k)) .0) o i
       owns c y x = record { locks = c; is = x; least = y }
 
       go : (w : Owner) → m .owner ≡ w → Owns P (step s (invoke i o (P .call k)) .0) o i
@@ -68,13 +71,15 @@ module _ {K : Kind} (P : Part mutex-kind K) (h : Fits P) (s : Sys K) (g : Fine s
 
   waited : (i : ℕ) → Waits step s i o (P .call lock) (P .wish tt) → step s (invoke i o (P .call lock)) .1 ≡ done ok → ⊥
   waited i w z =
-      ⊎-elim (λ l. waits-not (sym (ap (λ (x : Reply K). x .1) (w .joins l)) ∙ z)) (λ l. refused (sym z ∙ ap (λ (x : Reply K). x .1) (w .full l))) (under (length (s .queue o)) maxWaiters)
+      ⊎-elim (λ l. waits-not (sym (ap (λ (x : Reply K). x .1) (w .joins l)) ∙ z)) (λ l. refused (sym z ∙ ap (λ (x : Reply K). x .1) (w .full l)))
+      (under (length (s .queue o)) maxWaiters)
 
   got : (i : ℕ) → step s (invoke i o (P .call lock)) .1 ≡ done ok → Owns P (step s (invoke i o (P .call lock)) .0) o i
   got i z = one i lock (mutex-keeps P h s g i o m e (done-runs s g i o (P .call lock) (P .num m) ok e z) .locks) (waited i) z
 
   tried : (i : ℕ) → step s (invoke i o (P .call tryLock)) .1 ≡ done ok → Owns P (step s (invoke i o (P .call tryLock)) .0) o i
-  tried i z = one i tryLock (mutex-keeps P h s g i o m e (done-runs s g i o (P .call tryLock) (P .num m) ok e z) .tries) (λ w y. refused (sym y ∙ ap (λ (x : Reply K). x .1) w)) z
+  tried i z = one i tryLock (mutex-keeps P h s g i o m e (done-runs s g i o (P .call tryLock) (P .num m) ok e z) .tries)
+      (λ w y. refused (sym y ∙ ap (λ (x : Reply K). x .1) w)) z
 
 pub mutexes : {K : Kind} → Lawful K → (P : Part mutex-kind K) → Fits P → (s : Sys K) → Start s → (past : List (Op K)) → Mutexes P (run step s) past
 mutexes l P h s b past =

@@ -69,7 +69,11 @@ more-or false n h = h
 -- each member of a queue is in it
 members : (q : List ℕ) → All (λ y. 0 < times (ident y) q) q
 members [] = tt
-members (x ∷ q) = (rw (eq-eqb (ident x) (ident x) refl) (omega arith), all-map (λ y. 0 < times (ident y) q) (λ y. 0 < times (ident y) (x ∷ q)) q (λ y h. more-or (eqb (ident x) (ident y)) (times (ident y) q) h) (members q))
+members (x ∷ q) = (
+  rw (eq-eqb (ident x) (ident x) refl) (omega arith),
+  all-map (λ y. 0 < times (ident y) q) (λ y. 0 < times (ident y) (x ∷ q)) q
+      (λ y h. more-or (eqb (ident x) (ident y)) (times (ident y) q) h) (members q),
+)
 
 -- what a step makes of the queue q: some leave it; or one that did not wait joins it
 pub data Next (o : ℕ) (f : ℕ → State) (q q' : List ℕ) : Type 0 where
@@ -78,7 +82,8 @@ pub data Next (o : ℕ) (f : ℕ → State) (q q' : List ℕ) : Type 0 where
 
 module _ {K : Kind} (s : Sys K) (g : Fine s) (i o : ℕ) (n : K .Num) (h : s .slot o ≡ object n) where
   by-verdict : (d : Verdict (K .Num) (K .Wish)) → s .state i ≡ running
-      → Next o (s .state) (s .queue o) (unless (carried (thread i (s .prio i) 1) d n (s .queue o) .turn .code) s (serve s i o d (carried (thread i (s .prio i) 1) d n (s .queue o))) .queue o)
+      → Next o (s .state) (s .queue o) (unless (carried (thread i (s .prio i) 1) d n (s .queue o) .turn .code) s
+      (serve s i o d (carried (thread i (s .prio i) 1) d n (s .queue o))) .queue o)
   by-verdict (deny (negsuc c)) r = fewer (sub-all (s .queue o))
   by-verdict (deny (pos c)) r = rw (eq-eqb o o refl) (fewer (sub-all (s .queue o)))
   by-verdict (allow m keep (negsuc c)) r = fewer (sub-all (s .queue o))
@@ -91,7 +96,8 @@ module _ {K : Kind} (s : Sys K) (g : Fine s) (i o : ℕ) (n : K .Num) (h : s .sl
       there a = let v : running ≡ absent = sym r ∙ a in absurd (let y : _≡_ {A = ℕ} 0 1 = cc in omega arith)
 
       go : (a b : Bool) → holds (ident (entry (s .prio i) i)) (s .queue o) ≡ a → ltb (length (s .queue o)) maxWaiters ≡ b
-          → Next o (s .state) (s .queue o) (unless (carried (thread i (s .prio i) 1) (allow m (park x) c) n (s .queue o) .turn .code) s (serve s i o (allow m (park x) c) (carried (thread i (s .prio i) 1) (allow m (park x) c) n (s .queue o))) .queue o)
+          → Next o (s .state) (s .queue o) (unless (carried (thread i (s .prio i) 1) (allow m (park x) c) n (s .queue o) .turn .code) s
+          (serve s i o (allow m (park x) c) (carried (thread i (s .prio i) 1) (allow m (park x) c) n (s .queue o))) .queue o)
       go true b y z = rw y (fewer (sub-all (s .queue o)))
       go false true y z = rw (y, z, eq-eqb o o refl) (more (s .prio i) i (ident-entry (s .prio i) i (g .known i there .0)) (rw r refl) refl)
       go false false y z = rw (y, z) (fewer (sub-all (s .queue o)))
@@ -246,14 +252,16 @@ module _ {K : Kind} (law : Lawful K) (s : Sys K) (b : Start s) where
         sorted-mono (Earlier (aged past o)) (Earlier (aged (x₀ ∷ past) o)) (λ y. 0 < times (ident y) (now .queue o))
         (λ y z m l r. later y z m l r) q a c
       where
-        later : (y z : ℕ) → 0 < times (ident y) (now .queue o) → 0 < times (ident z) (now .queue o) → Earlier (aged past o) y z → Earlier (aged (x₀ ∷ past) o) y z
+        later : (y z : ℕ) → 0 < times (ident y) (now .queue o) → 0 < times (ident z) (now .queue o) → Earlier (aged past o) y z
+            → Earlier (aged (x₀ ∷ past) o) y z
         later y z m l (inl h) = inl h
         later y z m l (inr h) = inr (h .0, omega (arith, h .1, grown (ident y) m, grown (ident z) l))
 
     ordered-step : Sorted (Earlier (aged past o)) (old .queue o) → Sorted (Earlier (aged (x₀ ∷ past) o)) (now .queue o)
     ordered-step c = go (step-next law old (always law s b past) x₀ o) (members (now .queue o))
       where
-        go : Next o (old .state) (old .queue o) (now .queue o) → All (λ y. 0 < times (ident y) (now .queue o)) (now .queue o) → Sorted (Earlier (aged (x₀ ∷ past) o)) (now .queue o)
+        go : Next o (old .state) (old .queue o) (now .queue o) → All (λ y. 0 < times (ident y) (now .queue o)) (now .queue o)
+            → Sorted (Earlier (aged (x₀ ∷ past) o)) (now .queue o)
         go (fewer t) a = older (now .queue o) a (sub-sorted (Earlier (aged past o)) t c)
         go (more p i y z e) a =
             let w : ℕ = entry p i in
@@ -261,11 +269,19 @@ module _ {K : Kind} (law : Lawful K) (s : Sys K) (b : Start s) where
             let g : Fine old = always law s b past in
             let j : (t : ℕ) → times t (now .queue o) ≡ cond (eqb i t) (suc (times t q)) (times t q) = λ t. ap (times t) e ∙ times-joined t w q ∙ rw y in
             let here : All (λ x. 0 < times (ident x) (now .queue o)) q =
-            all-map (λ x. 0 < times (ident x) q) (λ x. 0 < times (ident x) (now .queue o)) q (λ x h. rw (j (ident x)) (more-or (eqb i (ident x)) (times (ident x) q) h)) (members q) in
+            all-map (λ x. 0 < times (ident x) q) (λ x. 0 < times (ident x) (now .queue o)) q
+            (λ x h. rw (j (ident x)) (more-or (eqb i (ident x)) (times (ident x) q) h)) (members q) in
             let self : 0 < times i (now .queue o) = rw (j i, eq-eqb i i refl) (omega arith) in
             let late : All (λ x. aged (x₀ ∷ past) o (ident w) < aged (x₀ ∷ past) o (ident x)) q =
             all-two (λ x. 0 < times (ident x) (now .queue o)) (λ x. 0 < times (ident x) q) (λ x. aged (x₀ ∷ past) o (ident w) < aged (x₀ ∷ past) o (ident x)) q
-            (λ x m k. rw y (omega (arith, grown i self, grown (ident x) m, age-none past o i z, age-some past o (ident x) (omega (arith, g .placed o (ident x)))))) here (members q) in
+            (λ x m k. rw y (omega (
+              arith,
+              grown i self,
+              grown (ident x) m,
+              age-none past o i z,
+              age-some past o (ident x)
+                  (omega (arith, g .placed o (ident x))),
+            ))) here (members q) in
             rw e (sorted-joined (aged (x₀ ∷ past) o) w q (g .queues o .sorted) (older q here c) late)
 
   in-order : (past : List (Op K)) (o : ℕ) → Sorted (Earlier (aged past o)) (after s past .queue o)

@@ -48,7 +48,18 @@ find w (x ∷ q) s = go (ltb (prio w) (prio x)) refl (find w q (s .1))
     go : (b : Bool) → ltb (prio w) (prio x) ≡ b → Found w q → Found w (x ∷ q)
     go true e f =
         let l : prio w < prio x = ltb-true (prio w) (prio x) e in
-        record { ahead = []; behind = x ∷ q; all = refl; high = tt; low = (l, all-map (NoLower x) (λ y. prio w < prio y) q (λ y z. omega arith) (s .0)); is = rw e }
+        record {
+          ahead = [];
+          behind = x ∷ q;
+          all = refl;
+          high = tt;
+          low = (
+            l,
+            all-map (NoLower x) (λ y. prio w < prio y) q (λ y z. omega arith)
+                (s .0),
+          );
+          is = rw e;
+        }
     go false e f =
         record {
           ahead = x ∷ f .ahead;

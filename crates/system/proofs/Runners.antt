@@ -11,7 +11,8 @@ use Rattle.system.proofs.ThreadLaws.{callers}
 pub refused : {A : Type 0} {x y : ℤ} → done x ≡ denied y → A
 refused h = absurd (let z : _≡_ {A = ℕ} 0 1 = cc in omega arith)
 
-pub done-runs : {K : Kind} (s : Sys K) → Fine s → (i o : ℕ) (k : K .Call) (n : K .Num) (c : ℤ) → s .slot o ≡ object n → step s (invoke i o k) .1 ≡ done c → s .state i ≡ running
+pub done-runs : {K : Kind} (s : Sys K) → Fine s → (i o : ℕ) (k : K .Call) (n : K .Num) (c : ℤ) → s .slot o ≡ object n → step s (invoke i o k) .1 ≡ done c
+    → s .state i ≡ running
 done-runs {K} s g i o k n c h e = go (s .state i) refl
   where
     off : {d : ℤ} → step s (invoke i o k) .1 ≡ denied d → s .state i ≡ running

@@ -37,7 +37,8 @@ module _ {K : Kind} (f g : Kernel K) (s : Sys K) (i o : ℕ) (k : K .Call) where
       a .joins l
       ∙ (λ j. (
         puts s (is-now i (waiting o) ∷ has-wish i w ∷ has-queue o
-            (one-place (λ x. s .prio (ident x)) (entry (s .prio i) i) (s .prio i) (s .queue o) (a .room l .ahead) (a .room l .behind) (b .room l .ahead) (b .room l .behind) (a .room l .all)
+            (one-place (λ x. s .prio (ident x)) (entry (s .prio i) i) (s .prio i) (s .queue o) (a .room l .ahead) (a .room l .behind) (b .room l .ahead)
+            (b .room l .behind) (a .room l .all)
             (b .room l .all) (a .room l .high) (a .room l .low) (b .room l .high) (b .room l .low) j) ∷ []),
         done (pos 1),
         [],

@@ -34,15 +34,18 @@ makes n e = rw (lt-ltb (n .limit) 4294967296 (e .1), lt-ltb 0 (n .limit) (e .0),
 made : (n : Sem) → new n ≡ true → SemMakes n
 made n e = go (ltb (n .limit) 4294967296) (ltb 0 (n .limit)) (leb (n .count) (n .limit)) refl refl refl e
   where
-    go : (a b c : Bool) → ltb (n .limit) 4294967296 ≡ a → ltb 0 (n .limit) ≡ b → leb (n .count) (n .limit) ≡ c → cond a (cond b (cond c true false) false) false ≡ true → SemMakes n
+    go : (a b c : Bool) → ltb (n .limit) 4294967296 ≡ a → ltb 0 (n .limit) ≡ b → leb (n .count) (n .limit) ≡ c
+        → cond a (cond b (cond c true false) false) false ≡ true → SemMakes n
     go true true true x y z e = (ltb-true 0 (n .limit) y, ltb-true (n .limit) 4294967296 x, leb-true (n .count) (n .limit) z)
     go true true false x y z e = clash (sym e)
     go true false c x y z e = clash (sym e)
     go false b c x y z e = clash (sym e)
 
-module _ {K : Kind} (P : Part sem-kind K) (h : Fits P) (s : Sys K) (g : Fine s) (i o : ℕ) (n : Sem) (e : s .slot o ≡ object (P .num n)) (r : s .state i ≡ running) where
+module _ {K : Kind} (P : Part sem-kind K) (h : Fits P) (s : Sys K) (g : Fine s) (i o : ℕ) (n : Sem) (e : s .slot o ≡ object (P .num n))
+    (r : s .state i ≡ running) where
   -- what it decides, in words of the system
-  says : (k : Call) (d : Verdict Sem (Unit {0})) → decide n (λ t. P .seen (s .wish t)) (map ident (s .queue o)) i k ≡ d → verdict s i o (P .call k) (P .num n) ≡ mapped (P .num) (P .wish) d
+  says : (k : Call) (d : Verdict Sem (Unit {0})) → decide n (λ t. P .seen (s .wish t)) (map ident (s .queue o)) i k ≡ d
+      → verdict s i o (P .call k) (P .num n) ≡ mapped (P .num) (P .wish) d
   says k d z = h .decides n (s .wish) (map ident (s .queue o)) i k ∙ ap (mapped (P .num) (P .wish)) z
 
   pub sem-keeps : SemRules P step s i o n
@@ -54,21 +57,26 @@ module _ {K : Kind} (P : Part sem-kind K) (h : Fits P) (s : Sys K) (g : Fine s) 
               alone =
                   λ z.
                   record {
-                    below = λ l. effects.keeps s g i o (P .call give) (P .num n) e r (counted P step s i o n (suc (n .count))) 1 (says give (allow (counting (suc (n .count)) n) keep incremented) (rw (z, lt-ltb (n .count) (n .limit) l)));
-                    full = λ l. effects.stays s g i o (P .call give) (P .num n) e r 2 (says give (allow n keep saturated) (rw (z, le-ltb (n .count) (n .limit) l)));
+                    below = λ l. effects.keeps s g i o (P .call give) (P .num n) e r (counted P step s i o n (suc (n .count))) 1
+                        (says give (allow (counting (suc (n .count)) n) keep incremented) (rw (z, lt-ltb (n .count) (n .limit) l)));
+                    full = λ l. effects.stays s g i o (P .call give) (P .num n) e r 2
+                        (says give (allow n keep saturated) (rw (z, le-ltb (n .count) (n .limit) l)));
                   };
             };
         takes =
             record {
-              there = λ l. effects.keeps s g i o (P .call take) (P .num n) e r (counted P step s i o n (n .count - 1)) 0 (says take (allow (counting (n .count - 1) n) keep ok) (rw (lt-ltb 0 (n .count) l)));
+              there = λ l. effects.keeps s g i o (P .call take) (P .num n) e r (counted P step s i o n (n .count - 1)) 0
+                  (says take (allow (counting (n .count - 1) n) keep ok) (rw (lt-ltb 0 (n .count) l)));
               empty = λ z. effects.waits s g i o (P .call take) (P .num n) e r (P .wish tt) turn.waits (says take (allow n (park tt) turn.waits) (rw z));
             };
         tries =
             record {
-              there = λ l. effects.keeps s g i o (P .call tryTake) (P .num n) e r (counted P step s i o n (n .count - 1)) 0 (says tryTake (allow (counting (n .count - 1) n) keep ok) (rw (lt-ltb 0 (n .count) l)));
+              there = λ l. effects.keeps s g i o (P .call tryTake) (P .num n) e r (counted P step s i o n (n .count - 1)) 0
+                  (says tryTake (allow (counting (n .count - 1) n) keep ok) (rw (lt-ltb 0 (n .count) l)));
               empty = λ z. effects.denies s g i o (P .call tryTake) (P .num n) e r 15 (says tryTake (deny ebusy) (rw z));
             };
-        clears = effects.wakes-all s g i o (P .call reset) (P .num n) e r (counted P step s i o n 0) eagain (says reset (allow (counting 0 n) (wake everybody (λ t. eagain)) (pos (length (map ident (s .queue o))))) refl);
+        clears = effects.wakes-all s g i o (P .call reset) (P .num n) e r (counted P step s i o n 0) eagain
+            (says reset (allow (counting 0 n) (wake everybody (λ t. eagain)) (pos (length (map ident (s .queue o))))) refl);
       }
 
 module _ {K : Kind} (P : Part sem-kind K) (f g : Kernel K) (s : Sys K) (i o : ℕ) (n : Sem) where
@@ -78,7 +86,8 @@ module _ {K : Kind} (P : Part sem-kind K) (f g : Kernel K) (s : Sys K) (i o : �
 
   sem-fixes : (k : Call) → SemRules P f s i o n → SemRules P g s i o n → f s (invoke i o (P .call k)) ≡ g s (invoke i o (P .call k))
   sem-fixes give a b =
-      one-wake f g s i o (P .call give) (pos 0) (λ x y. ⊎-elim (λ l. x .below l ∙ sym (y .below l)) (λ l. x .full l ∙ sym (y .full l)) (under (n .count) (n .limit))) (a .gives) (b .gives)
+      one-wake f g s i o (P .call give) (pos 0)
+      (λ x y. ⊎-elim (λ l. x .below l ∙ sym (y .below l)) (λ l. x .full l ∙ sym (y .full l)) (under (n .count) (n .limit))) (a .gives) (b .gives)
   sem-fixes take a b = one-take take (one-wait f g s i o (P .call take) (P .wish tt)) (a .takes) (b .takes)
   sem-fixes tryTake a b = one-take tryTake (λ x y. x ∙ sym y) (a .tries) (b .tries)
   sem-fixes reset a b = a .clears ∙ sym (b .clears)

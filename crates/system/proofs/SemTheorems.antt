@@ -43,14 +43,17 @@ module _ {K : Kind} (P : Part sem-kind K) (h : Fits P) (s : Sys K) (g : Fine s) 
       go false z = z
 
   -- who is answered 0 had one, if at 0 nobody is answered 0
-  one : (i : ℕ) (k : Call) {E : Type 0} → Takes P step s i o n k E → (E → step s (invoke i o (P .call k)) .1 ≡ done ok → ⊥) → step s (invoke i o (P .call k)) .1 ≡ done ok
+  one : (i : ℕ) (k : Call) {E : Type 0} → Takes P step s i o n k E → (E → step s (invoke i o (P .call k)) .1 ≡ done ok → ⊥)
+      → step s (invoke i o (P .call k)) .1 ≡ done ok
       → (0 < n .count) × (step s (invoke i o (P .call k)) .0 .slot o ≡ object (P .num (record { count = n .count - 1; limit = n .limit })))
   one i k t off z =
-      ⊎-elim (λ l. (l, ap (λ (x : Reply K). x .0 .slot o) (t .there l) ∙ rw (eq-eqb o o refl))) (λ l. absurd (off (t .empty (omega arith)) z)) (under 0 (n .count))
+      ⊎-elim (λ l. (l, ap (λ (x : Reply K). x .0 .slot o) (t .there l) ∙ rw (eq-eqb o o refl))) (λ l. absurd (off (t .empty (omega arith)) z))
+      (under 0 (n .count))
 
   waited : (i : ℕ) → Waits step s i o (P .call take) (P .wish tt) → step s (invoke i o (P .call take)) .1 ≡ done ok → ⊥
   waited i w z =
-      ⊎-elim (λ l. waits-not (sym (ap (λ (x : Reply K). x .1) (w .joins l)) ∙ z)) (λ l. refused (sym z ∙ ap (λ (x : Reply K). x .1) (w .full l))) (under (length (s .queue o)) maxWaiters)
+      ⊎-elim (λ l. waits-not (sym (ap (λ (x : Reply K). x .1) (w .joins l)) ∙ z)) (λ l. refused (sym z ∙ ap (λ (x : Reply K). x .1) (w .full l)))
+      (under (length (s .queue o)) maxWaiters)
 
   took : (i : ℕ) → step s (invoke i o (P .call take)) .1 ≡ done ok
       → (0 < n .count) × (step s (invoke i o (P .call take)) .0 .slot o ≡ object (P .num (record { count = n .count - 1; limit = n .limit })))
@@ -59,7 +62,8 @@ module _ {K : Kind} (P : Part sem-kind K) (h : Fits P) (s : Sys K) (g : Fine s) 
   tried : (i : ℕ) → step s (invoke i o (P .call tryTake)) .1 ≡ done ok
       → (0 < n .count) × (step s (invoke i o (P .call tryTake)) .0 .slot o ≡ object (P .num (record { count = n .count - 1; limit = n .limit })))
   tried i z =
-      one i tryTake (sem-keeps P h s g i o n e (done-runs s g i o (P .call tryTake) (P .num n) ok e z) .tries) (λ w y. refused (sym y ∙ ap (λ (x : Reply K). x .1) w)) z
+      one i tryTake (sem-keeps P h s g i o n e (done-runs s g i o (P .call tryTake) (P .num n) ok e z) .tries)
+      (λ w y. refused (sym y ∙ ap (λ (x : Reply K). x .1) w)) z
 
 pub semaphores : {K : Kind} → Lawful K → (P : Part sem-kind K) → Fits P → (s : Sys K) → Start s → (past : List (Op K)) → Semaphores P (run step s) past
 semaphores l P h s b past =

@@ -88,7 +88,8 @@ within-fits {A} P Q g h =
 pub fits-of : {A : Member} {l : Members} (h : Has A l) → Fits (partOf h)
 fits-of {A} (first {l = l}) = left-fits A (sum l) (whole (sum (A & l) .kind)) (whole-fits (sum (A & l) .kind))
 fits-of (later {B = B} {l = l} h) =
-    within-fits (partOf h) (inRight B (sum l) (whole (sum (B & l) .kind))) (fits-of h) (right-fits B (sum l) (whole (sum (B & l) .kind)) (whole-fits (sum (B & l) .kind)))
+    within-fits (partOf h) (inRight B (sum l) (whole (sum (B & l) .kind))) (fits-of h)
+    (right-fits B (sum l) (whole (sum (B & l) .kind)) (whole-fits (sum (B & l) .kind)))
 
 pub record Sheet (M : Member) : Type 1 where
   pub lawful : Lawful (M .kind)
@@ -100,7 +101,8 @@ pub record Sheet (M : Member) : Type 1 where
   -- a call for another kind is refused
   pub foreign : (n : M .kind .Num) (v : ℕ → M .kind .Wish) (q : List ℕ) (w : ℕ) (k : M .kind .Call) → M .Foreign n k → M .kind .decide n v q w k ≡ deny einval
   -- our step keeps the data sheet
-  pub keeps : {K : Kind} (P : Part (M .kind) K) → Fits P → (s : Sys K) → Fine s → (i o : ℕ) (n : M .kind .Num) → s .slot o ≡ object (P .num n) → s .state i ≡ running
+  pub keeps : {K : Kind} (P : Part (M .kind) K) → Fits P → (s : Sys K) → Fine s → (i o : ℕ) (n : M .kind .Num) → s .slot o ≡ object (P .num n)
+      → s .state i ≡ running
       → M .Rules P step s i o n
   -- two kernels that keep it do the same
   pub fixes : {K : Kind} (P : Part (M .kind) K) (f g : Kernel K) (s : Sys K) (i o : ℕ) (n : M .kind .Num) (k : M .kind .Call)
@@ -109,10 +111,12 @@ pub record Sheet (M : Member) : Type 1 where
 
 module _ {A B : Member} (a : Sheet A) (b : Sheet B) where
   turnwise-sum : Turnwise ((A ⊕ B) .kind)
-  turnwise-sum (inl n) v q w (inl k) = mapped-turn inl inl (A .kind .decide n (λ t. onLeft (A .idle) (v t)) q w k) (a .turnwise n (λ t. onLeft (A .idle) (v t)) q w k)
+  turnwise-sum (inl n) v q w (inl k) = mapped-turn inl inl (A .kind .decide n (λ t. onLeft (A .idle) (v t)) q w k)
+      (a .turnwise n (λ t. onLeft (A .idle) (v t)) q w k)
   turnwise-sum (inl n) v q w (inr k) = tt
   turnwise-sum (inr n) v q w (inl k) = tt
-  turnwise-sum (inr n) v q w (inr k) = mapped-turn inr inr (B .kind .decide n (λ t. onRight (B .idle) (v t)) q w k) (b .turnwise n (λ t. onRight (B .idle) (v t)) q w k)
+  turnwise-sum (inr n) v q w (inr k) = mapped-turn inr inr (B .kind .decide n (λ t. onRight (B .idle) (v t)) q w k)
+      (b .turnwise n (λ t. onRight (B .idle) (v t)) q w k)
 
   makes-sum : (n : (A ⊕ B) .kind .Num) → (A ⊕ B) .Makes n → (A ⊕ B) .kind .new n ≡ true
   makes-sum (inl n) e = a .makes n e

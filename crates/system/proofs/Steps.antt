@@ -83,13 +83,15 @@ module _ {K : Kind} (s : Sys K) (g : Fine s) where
           known = λ t z. g .known t (there t (eqb i t) refl z);
         }
       where
-        place : (x t : ℕ) (a b : Bool) → eqb o x ≡ a → eqb i t ≡ b → times t (cond a (without i (s .queue o)) (s .queue x)) ≡ on x (cond b (ready eagain) (s .state t))
+        place : (x t : ℕ) (a b : Bool) → eqb o x ≡ a → eqb i t ≡ b
+            → times t (cond a (without i (s .queue o)) (s .queue x)) ≡ on x (cond b (ready eagain) (s .state t))
         place x t true true u v = times-without t i (s .queue o) ∙ rw v
         place x t true false u v = times-without t i (s .queue o) ∙ rw (v, sym (eqb-true o x u)) (g .placed o t)
         place x t false true u v = rw (sym (eqb-true i t v)) (g .placed x i ∙ rw (h, u))
         place x t false false u v = g .placed x t
 
-        keep : (x : ℕ) (n : K .Num) → s .slot x ≡ object n → (a : Bool) → eqb o x ≡ a → Rightly K n (s .wish) (map ident (cond a (without i (s .queue o)) (s .queue x)))
+        keep : (x : ℕ) (n : K .Num) → s .slot x ≡ object n → (a : Bool) → eqb o x ≡ a
+            → Rightly K n (s .wish) (map ident (cond a (without i (s .queue o)) (s .queue x)))
         keep x n z true u =
             list-all (λ t. K .Blocked n t (s .wish t)) (without i (s .queue o))
             (sub-holds (λ y. K .Blocked n (ident y) (s .wish (ident y))) (others-sub (of i) (s .queue o))
@@ -153,7 +155,8 @@ module _ {K : Kind} (s : Sys K) (g : Fine s) where
         place o t true e = rw (sym (eqb-true i t e)) (unknown o)
         place o t false e = g .placed o t
 
-        owns : (q : List ℕ) → All (Other i) q → All (λ y. y ≡ entry (s .prio (ident y)) (ident y)) q → All (λ y. y ≡ entry (upd (s .prio) i p (ident y)) (ident y)) q
+        owns : (q : List ℕ) → All (Other i) q → All (λ y. y ≡ entry (s .prio (ident y)) (ident y)) q
+            → All (λ y. y ≡ entry (upd (s .prio) i p (ident y)) (ident y)) q
         owns [] a b = tt
         owns (y ∷ q) a b = (rw (ne-eqb i (ident y) (λ e. a .0 (sym e))) (b .0), owns q (a .1) (b .1))
 
@@ -177,7 +180,8 @@ module _ {K : Kind} (s : Sys K) (g : Fine s) where
       object-is : {k m : K .Num} → object k ≡ object m → k ≡ m
       object-is h = cc
 
-      go : (x : Slot (K .Num)) (b : Bool) → s .slot o ≡ x → K .new n ≡ b → Fine {K = K} (cond {A = Reply K} (free x) (cond b (accept (placed s o n) ok) (refuse s einval)) (refuse s einval) .0)
+      go : (x : Slot (K .Num)) (b : Bool) → s .slot o ≡ x → K .new n ≡ b
+          → Fine {K = K} (cond {A = Reply K} (free x) (cond b (accept (placed s o n) ok) (refuse s einval)) (refuse s einval) .0)
       go (object m) b h z = g
       go vacant false h z = g
       go vacant true h z =

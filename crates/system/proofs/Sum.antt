@@ -46,10 +46,12 @@ module _ (A B : Member) (a : Lawful (A .kind)) (b : Lawful (B .kind)) where
 
   right : (n : A .kind .Num ⊎ B .kind .Num) (v : ℕ → A .kind .Wish ⊎ B .kind .Wish) (q : List ℕ) (w : ℕ) (k : A .kind .Call ⊎ B .kind .Call)
       → (A ⊕ B) .kind .formed n (any q) ≡ true → Distinct q → Rightly ((A ⊕ B) .kind) n v q → Right ((A ⊕ B) .kind) v q w k ((A ⊕ B) .kind .decide n v q w k)
-  right (inl m) v q w (inl k) f d r = right-left v q w k (A .kind .decide m (λ t. onLeft (A .idle) (v t)) q w k) (a .right m (λ t. onLeft (A .idle) (v t)) q w k f d r)
+  right (inl m) v q w (inl k) f d r = right-left v q w k (A .kind .decide m (λ t. onLeft (A .idle) (v t)) q w k)
+      (a .right m (λ t. onLeft (A .idle) (v t)) q w k f d r)
   right (inl m) v q w (inr k) f d r = tt
   right (inr n) v q w (inl k) f d r = tt
-  right (inr n) v q w (inr k) f d r = right-right v q w k (B .kind .decide n (λ t. onRight (B .idle) (v t)) q w k) (b .right n (λ t. onRight (B .idle) (v t)) q w k f d r)
+  right (inr n) v q w (inr k) f d r = right-right v q w k (B .kind .decide n (λ t. onRight (B .idle) (v t)) q w k)
+      (b .right n (λ t. onRight (B .idle) (v t)) q w k f d r)
 
   fewer : (n : A .kind .Num ⊎ B .kind .Num) → (A ⊕ B) .kind .formed n true ≡ true → (A ⊕ B) .kind .formed n false ≡ true
   fewer (inl m) f = a .fewer m f
@@ -77,10 +79,12 @@ module _ (A B : Member) (a : Lawful (A .kind)) (b : Lawful (B .kind)) where
 
   booked : (n : A .kind .Num ⊎ B .kind .Num) (v : ℕ → A .kind .Wish ⊎ B .kind .Wish) (q : List ℕ) (w : ℕ) (k : A .kind .Call ⊎ B .kind .Call)
       → (A ⊕ B) .kind .formed n (any q) ≡ true → Booked ((A ⊕ B) .kind) n q w k ((A ⊕ B) .kind .decide n v q w k)
-  booked (inl m) v q w (inl k) f = booked-left m q w k (A .kind .decide m (λ t. onLeft (A .idle) (v t)) q w k) (a .booked m (λ t. onLeft (A .idle) (v t)) q w k f)
+  booked (inl m) v q w (inl k) f = booked-left m q w k (A .kind .decide m (λ t. onLeft (A .idle) (v t)) q w k)
+      (a .booked m (λ t. onLeft (A .idle) (v t)) q w k f)
   booked (inl m) v q w (inr k) f = tt
   booked (inr n) v q w (inl k) f = tt
-  booked (inr n) v q w (inr k) f = booked-right n q w k (B .kind .decide n (λ t. onRight (B .idle) (v t)) q w k) (b .booked n (λ t. onRight (B .idle) (v t)) q w k f)
+  booked (inr n) v q w (inr k) f = booked-right n q w k (B .kind .decide n (λ t. onRight (B .idle) (v t)) q w k)
+      (b .booked n (λ t. onRight (B .idle) (v t)) q w k f)
 
   pub sum-lawful : Lawful ((A ⊕ B) .kind)
   sum-lawful = record { sound = sound; right = right; fewer = fewer; made = made; booked = booked }

@@ -54,7 +54,12 @@ module _ {K : Kind} (s : Sys K) (g : Fine s) where
         late =
             λ i o w a b h e z.
             rw h
-            (λ j. (puts s (is-now i (ready eagain) ∷ has-queue o ((ap (without i) e ∙ leaves i w a b z (sym (ap (times i) e) ∙ g .placed o i ∙ rw (h, eq-eqb o o refl))) j) ∷ []), done ok, []));
+            (λ j. (
+              puts s (is-now i (ready eagain) ∷ has-queue o
+                  ((ap (without i) e ∙ leaves i w a b z (sym (ap (times i) e) ∙ g .placed o i ∙ rw (h, eq-eqb o o refl))) j) ∷ []),
+              done ok,
+              [],
+            ));
         lateNot = λ i e. at-late i e (s .state i) refl;
         born = λ i p h a b. rw (h, lt-ltb i 4294967296 a, lt-ltb p maxPriority b);
         bornNot = λ i p e. at-born i p e (s .state i) (ltb i 4294967296) (ltb p maxPriority) refl refl refl;
@@ -78,7 +83,8 @@ module _ {K : Kind} (s : Sys K) (g : Fine s) where
       at-late i e (ready r) h = refl
       at-late i e (waiting o) h = absurd (e o h)
 
-      at-born : (i p : ℕ) → ((s .state i ≡ absent) × (i < 4294967296) × (p < maxPriority) → ⊥) → (x : State) (a b : Bool) → s .state i ≡ x → ltb i 4294967296 ≡ a → ltb p maxPriority ≡ b
+      at-born : (i p : ℕ) → ((s .state i ≡ absent) × (i < 4294967296) × (p < maxPriority) → ⊥) → (x : State) (a b : Bool) → s .state i ≡ x
+          → ltb i 4294967296 ≡ a → ltb p maxPriority ≡ b
           → spawned s i p ≡ refuse s einval
       at-born i p e absent true true h u v = absurd (e (h, ltb-true i 4294967296 u, ltb-true p maxPriority v))
       at-born i p e absent true false h u v = rw (h, u, v)

@@ -135,5 +135,8 @@ list-all P (x ∷ q) a = (a .0, list-all P q (a .1))
 -- who stands in a queue once is no other there
 pub distinct : (q : List ℕ) → Single q → Distinct (map ident q)
 distinct [] s = tt
-distinct (x ∷ q) s =
-    (list-all (λ u. ident x ≡ u → ⊥) q (all-map (Other (ident x)) (λ y. ident x ≡ ident y → ⊥) q (λ y n e. n (sym e)) (holds-none (ident x) q (s .0))), distinct q (s .1))
+distinct (x ∷ q) s = (
+  list-all (λ u. ident x ≡ u → ⊥) q (all-map (Other (ident x)) (λ y. ident x ≡ ident y → ⊥) q (λ y n e. n (sym e))
+      (holds-none (ident x) q (s .0))),
+  distinct q (s .1),
+)

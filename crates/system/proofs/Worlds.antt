@@ -30,7 +30,8 @@ pub record Linked {K : Kind} (C : Library K) : Type 0 where
   pub fits : (x : C .Sort) → Fits (C .class x .part)
   pub links : (x : C .Sort) (f : C .class x .code .Fn) → Links (C .class x .part) (C .class x .code .layout) (C .class x .code .function f)
   pub double : (t : C .Two)
-      → LinksBoth (C .class (C .first t) .part) (C .class (C .first t) .code .layout) (C .class (C .second t) .part) (C .class (C .second t) .code .layout) (C .double t)
+      → LinksBoth (C .class (C .first t) .part) (C .class (C .first t) .code .layout) (C .class (C .second t) .part)
+      (C .class (C .second t) .code .layout) (C .double t)
   pub told : (x : C .Sort) (n : C .class x .kind .Num) → C .class x .code .Told n → C .class x .kind .new n ≡ C .class x .kind .formed n false
   pub beside : (x : C .Sort) (h : List ℕ) (k : ℕ) → C .class x .code .layout .num (set h (C .class x .code .layout .len) k) ≡ C .class x .code .layout .num h
   pub own : (x : C .Sort) → C .class x .code .layout .len < C .class x .code .layout .words
@@ -86,7 +87,8 @@ module _ {K : Kind} (C : Library K) (linked : Linked C) (sort : ℕ → C .Sort)
         )
       where
         here : (r : ℤ)
-            → Turns (C .class (sort o) .code .layout) (C .class (sort o) .part .num) s o (create o (C .class (sort o) .part .num n)) r (w' o .header) (w o .entries)
+            → Turns (C .class (sort o) .code .layout) (C .class (sort o) .part .num) s o (create o (C .class (sort o) .part .num n)) r (w' o .header)
+            (w o .entries)
             → There C sort s w w' shows (created s o (C .class (sort o) .part .num n) .0) o
         here (pos c) x m z =
             subst
@@ -102,7 +104,8 @@ module _ {K : Kind} (C : Library K) (linked : Linked C) (sort : ℕ → C .Sort)
         let c : reply r ≡ done ok = subst (λ (y : State). reply r ≡ expired y s i .1) state (x .code) in
         let m : Allowed r (Is L num (left s i o) o (set (w o .header) (L .len) k) (w' o .entries)) =
         subst (λ (y : State). Allowed r (Is L num (expired y s i .0) o (set (w o .header) (L .len) k) (w' o .entries))) state (x .is) in (
-          subst (λ (y : State). Shows C sort (expired y s i .0) w') (sym state) (one-touched C sort s w w' shows (left s i o) o (here r c m) (λ y z. left-kept s y i o z) off),
+          subst (λ (y : State). Shows C sort (expired y s i .0) w') (sym state)
+              (one-touched C sort s w w' shows (left s i o) o (here r c m) (λ y z. left-kept s y i o z) off),
           silent (quiet (expire i) (reply r) (o ∷ []) i (λ x. ready eagain)) (step s (expire i)) (x .code) (rw state refl) refl refl,
           subst
               (λ (y : State). Readies s i (expired y s i .2) (expired y s i .0) × (expired y s i .0 .state i ≡ ready eagain)) (sym state)
@@ -110,7 +113,8 @@ module _ {K : Kind} (C : Library K) (linked : Linked C) (sort : ℕ → C .Sort)
         )
       where
         here : (r : ℤ) → reply r ≡ done ok
-            → Allowed r (Is (C .class (sort o) .code .layout) (C .class (sort o) .part .num) (left s i o) o (set (w o .header) (C .class (sort o) .code .layout .len) k) (w' o .entries))
+            → Allowed r (Is (C .class (sort o) .code .layout) (C .class (sort o) .part .num) (left s i o) o
+            (set (w o .header) (C .class (sort o) .code .layout .len) k) (w' o .entries))
             → There C sort s w w' shows (left s i o) o
         here (pos c) e y m z =
             subst (λ (l : List ℕ). Is (C .class (sort o) .code .layout) (C .class (sort o) .part .num) (left s i o) o l (w' o .entries)) (sym header) y

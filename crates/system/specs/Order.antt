@@ -30,5 +30,5 @@ module _ {K : Kind} (R : Run K) where
   -- of two threads that wait on one object a call wakes t, and u waits on: t is to be woken before u
   abbrev pub Best : List (Op K) → Op K → Type 0
   Best past x =
-      (o t u : ℕ) (r : ℤ) → R .state past .state t ≡ waiting o → R .state past .state u ≡ waiting o → (x ≡ expire t → ⊥) → R .state (x ∷ past) .state t ≡ ready r
-      → R .state (x ∷ past) .state u ≡ waiting o → Before (R .state past .prio) (age past o) t u
+      (o t u : ℕ) (r : ℤ) → R .state past .state t ≡ waiting o → R .state past .state u ≡ waiting o → (x ≡ expire t → ⊥)
+      → R .state (x ∷ past) .state t ≡ ready r → R .state (x ∷ past) .state u ≡ waiting o → Before (R .state past .prio) (age past o) t u

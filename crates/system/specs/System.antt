@@ -190,7 +190,8 @@ module _ {K : Kind} where
 
   -- ids are 32-bit numbers, and priorities 0 to 31
   abbrev pub spawned : Sys K → ℕ → ℕ → Reply K
-  spawned s i p = cond (gone-by (s .state i)) (cond (ltb i 4294967296) (cond (valid p) (accept (born s i p) ok) (refuse s einval)) (refuse s einval)) (refuse s einval)
+  spawned s i p = cond (gone-by (s .state i)) (cond (ltb i 4294967296) (cond (valid p) (accept (born s i p) ok) (refuse s einval)) (refuse s einval))
+      (refuse s einval)
 
   abbrev pub placed : Sys K → ℕ → K .Num → Sys K
   placed s o n = record { prio = s .prio; state = s .state; wish = s .wish; slot = upd (s .slot) o (object n); queue = s .queue }

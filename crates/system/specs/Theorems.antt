@@ -45,7 +45,8 @@ pub record Owns {K : Kind} (P : Part mutex-kind K) (s : Sys K) (o i : ℕ) : Typ
 module _ {K : Kind} (P : Part mutex-kind K) (R : Run K) (past : List (Op K)) where
   -- whose call k is answered 0 owns it
   abbrev pub Got : mutex.Call → Type 0
-  Got k = (i o : ℕ) (m : Mutex) → R .state past .slot o ≡ object (P .num m) → R .answer past (invoke i o (P .call k)) ≡ done ok → Owns P (R .state (invoke i o (P .call k) ∷ past)) o i
+  Got k = (i o : ℕ) (m : Mutex) → R .state past .slot o ≡ object (P .num m) → R .answer past (invoke i o (P .call k)) ≡ done ok
+      → Owns P (R .state (invoke i o (P .call k) ∷ past)) o i
 
   pub record Mutexes : Type 0 where
     -- one that somebody owns has at least one lock; a free one has none, and nobody waits for it
