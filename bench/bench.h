@@ -12,7 +12,7 @@
 #define NOINLINE __attribute__((noinline))
 #define COUNT_OF(array) (sizeof(array) / sizeof(array)[0])
 
-enum { SAMPLE = 16384 };
+enum { SAMPLE = 4096 };
 
 /* prepare makes the objects, run does the work that is measured and answers a check sum, and rest adds to it what the
  * objects hold then. */
@@ -37,6 +37,8 @@ struct group {
 extern const struct group thread_group __attribute__((weak)); /* threads.c */
 extern const struct group bytes_group __attribute__((weak));  /* bytes.c */
 extern const struct group slab_group __attribute__((weak));   /* slab.c */
+extern const struct group number_group __attribute__((weak)); /* numbers.c */
+extern const struct group refusal_group __attribute__((weak)); /* refusals.c */
 
 void expect(bool good, const char *what); /* or the run ends */
 

@@ -39,12 +39,21 @@ static inline const uint8_t *message(uint32_t i, uint32_t bytes)
     return messages + i % MESSAGES * bytes;
 }
 
+static uint32_t size;    /* of what is written at once */
+static uint32_t last_at; /* where its last four bytes begin, or all of them */
+
+static void set_size(uint32_t bytes)
+{
+    size = bytes;
+    last_at = bytes < sizeof(uint32_t) ? 0 : bytes - (uint32_t)sizeof(uint32_t);
+}
+
 /* The sum over what came out, of which the first and the last bytes stand for all. */
-static inline uint32_t mix_bytes(uint32_t sum, uint32_t bytes, int64_t answers)
+static inline uint32_t mix_bytes(uint32_t sum, int64_t answers)
 {
     uint32_t first, last;
     memcpy(&first, got, sizeof first);
-    memcpy(&last, got + bytes - sizeof last, sizeof last);
+    memcpy(&last, got + last_at, sizeof last);
     return mix(sum, first ^ 3 * last, (int32_t)answers);
 }
 
@@ -63,15 +72,13 @@ static uint32_t mix_rest(uint32_t sum, const uint32_t *head, size_t count)
  * As large as what is written, and empty before: a write begins where the ring does and ends where it ends; or it
  * begins in the middle, and half of it is before the end and half behind. */
 
-static uint32_t size;
-
 typedef int32_t init(uint32_t *head, const uint8_t *buf, uint64_t buf_len, uint32_t size);
 typedef int64_t put(uint32_t *head, uint8_t *buf, uint64_t buf_len, const uint8_t *src, uint64_t src_len);
 typedef int64_t get(uint32_t *head, const uint8_t *buf, uint64_t buf_len, uint8_t *out, uint64_t out_len);
 
 static void prepare(uint32_t *head, uint32_t bytes, init *make, put *write, get *read)
 {
-    size = bytes;
+    set_size(bytes);
     fill_messages();
     expect(make(head, room, bytes, bytes) == WQ_OK, "a ring is not made");
     if (straddles)
@@ -87,7 +94,7 @@ static inline __attribute__((always_inline)) uint32_t run(uint32_t *head, uint32
     for (uint32_t i = 0; i < times; i++) {
         int64_t in = write(head, room, size, message(i, size), size);
         int64_t out = read(head, room, size, got, size);
-        sum = mix_bytes(sum, size, 4 * in + out);
+        sum = mix_bytes(sum, 4 * in + out);
     }
     return sum;
 }
@@ -128,7 +135,7 @@ static uint32_t rest_of_pipe(uint32_t sum)
 
 static void prepare_queue(uint32_t bytes)
 {
-    size = bytes;
+    set_size(bytes);
     fill_messages();
     expect(wq_msgq_init(queue.head, room, sizeof room, bytes, SLOTS) == WQ_OK, "a message queue is not made");
     for (uint32_t i = 0; i < SLOTS / 2; i++)
@@ -141,7 +148,7 @@ static NOINLINE uint32_t run_queue(uint32_t times)
     for (uint32_t i = 0; i < times; i++) {
         int32_t in = wq_msgq_put(queue.head, room, sizeof room, message(i, size), size);
         int32_t out = wq_msgq_get(queue.head, room, sizeof room, got, size);
-        sum = mix_bytes(sum, size, 4 * in + out);
+        sum = mix_bytes(sum, 4 * in + out);
     }
     return sum;
 }
@@ -193,9 +200,12 @@ static const struct bench cases[] = {
     PIPE("aligned"),
     PIPE("straddling"),
 #define MSGQ(bytes) {"msgq put+get", bytes, "-", prepare_queue, run_queue, rest_of_queue, SAMPLE, SAMPLE}
+    MSGQ(3),
     MSGQ(4),
+    MSGQ(12),
     MSGQ(16),
     MSGQ(64),
+    MSGQ(100),
     MSGQ(256),
     {"stack push+pop", 8, "-", prepare_stack, run_stack, rest_of_stack, SAMPLE, SAMPLE},
 };

@@ -56,6 +56,42 @@ static inline void hand_out(const uint64_t *entry, uint32_t len, int32_t result,
         out[i] = (uint64_t)(uint32_t)result << 32 | (uint32_t)entry[len - 1 - i];
 }
 
+void wq_wait_queue_new(uint32_t *len)
+{
+    *len = 0;
+}
+
+int32_t wq_wait_queue_pend(uint32_t *len, uint64_t *entry, uint32_t id, uint32_t priority, uint32_t state)
+{
+    REFUSE_CALLER(*len > WQ_MAX_WAITERS, priority, state);
+    return pend(len, entry, id, priority);
+}
+
+int32_t wq_wait_queue_unpend_first(uint32_t *len, const uint64_t *entry, int32_t return_value, wq_woken *who)
+{
+    if (CHECKED && *len > WQ_MAX_WAITERS)
+        return WQ_EINVAL;
+    if (*len == 0)
+        return 0;
+    *who = (uint64_t)(uint32_t)return_value << 32 | unpend_first(len, entry);
+    return 1;
+}
+
+int32_t wq_wait_queue_remove(uint32_t *len, uint64_t *entry, uint32_t id)
+{
+    size_t n = *len, i = 0;
+    if (CHECKED && n > WQ_MAX_WAITERS)
+        return WQ_EINVAL;
+    while (i < n && (uint32_t)entry[i] != id)
+        i++;
+    if (i == n)
+        return WQ_ENOENT;
+    for (n--; i < n; i++)
+        entry[i] = entry[i + 1];
+    *len = (uint32_t)n;
+    return WQ_OK;
+}
+
 /* ---- Counting semaphore ----------------------------------------------------------------------- */
 
 enum { COUNT, LIMIT, SEM_LEN };
@@ -89,6 +125,17 @@ int32_t wq_sem_give(uint32_t *head, const uint64_t *entry, wq_woken *who)
         return WQ_GIVE_INCREMENTED;
     }
     return WQ_GIVE_SATURATED;
+}
+
+int32_t wq_sem_try_take(uint32_t *head, const uint64_t *entry)
+{
+    (void)entry;
+    if (CHECKED && sem_malformed(head))
+        return WQ_EINVAL;
+    if (head[COUNT] == 0)
+        return WQ_EBUSY;
+    head[COUNT]--;
+    return WQ_OK;
 }
 
 int32_t wq_sem_take_blocking(uint32_t *head, uint64_t *entry, uint32_t id, uint32_t priority, uint32_t state)
@@ -141,6 +188,25 @@ int32_t wq_mutex_init(uint32_t *head)
     head[OWNER] = 0;
     head[LOCKS] = 0;
     head[MUTEX_LEN] = 0;
+    return WQ_OK;
+}
+
+int32_t wq_mutex_try_lock(uint32_t *head, const uint64_t *entry, uint32_t id)
+{
+    (void)entry;
+    if (CHECKED && mutex_malformed(head))
+        return WQ_EINVAL;
+    if (head[LOCKS] == 0) {
+        head[OWNED] = 1;
+        head[OWNER] = id;
+        head[LOCKS] = 1;
+        return WQ_OK;
+    }
+    if (head[OWNER] != id)
+        return WQ_EBUSY;
+    if (CHECKED && head[LOCKS] == UINT32_MAX)
+        return WQ_EOVERFLOW;
+    head[LOCKS]++;
     return WQ_OK;
 }
 
@@ -223,4 +289,50 @@ int32_t wq_condvar_wait_blocking(uint32_t *head, uint64_t *entry, uint32_t *mute
     if (CHECKED && result != WQ_WAITS)
         return result;
     return hand_over(mutex_head, mutex_entry, who); /* which answers 1, that is WQ_WAITS, where it is free */
+}
+
+/* ---- Futex ------------------------------------------------------------------------------------ */
+
+enum { VAL, FUTEX_LEN };
+
+int32_t wq_futex_init(uint32_t *head, uint32_t val)
+{
+    head[VAL] = val;
+    head[FUTEX_LEN] = 0;
+    return WQ_OK;
+}
+
+int32_t wq_futex_wait(uint32_t *head, uint64_t *entry, uint32_t expected, uint32_t id, uint32_t priority, uint32_t state)
+{
+    REFUSE_CALLER(head[FUTEX_LEN] > WQ_MAX_WAITERS, priority, state);
+    if (head[VAL] != expected)
+        return WQ_EAGAIN;
+    return pend(&head[FUTEX_LEN], entry, id, priority);
+}
+
+int32_t wq_futex_wake(uint32_t *head, const uint64_t *entry, bool wake_all, wq_woken *out, uint64_t out_len)
+{
+    uint32_t len = head[FUTEX_LEN];
+    if (CHECKED && len > WQ_MAX_WAITERS)
+        return WQ_EINVAL;
+    if (len == 0)
+        return 0;
+    if (CHECKED && out_len < (wake_all ? len : 1))
+        return WQ_EINVAL;
+    if (wake_all) {
+        hand_out(entry, len, WQ_OK, out);
+        head[FUTEX_LEN] = 0;
+        return (int32_t)len;
+    }
+    out[0] = unpend_first(&head[FUTEX_LEN], entry);
+    return 1;
+}
+
+int32_t wq_futex_val_set(uint32_t *head, const uint64_t *entry, uint32_t val)
+{
+    (void)entry;
+    if (CHECKED && head[FUTEX_LEN] > WQ_MAX_WAITERS)
+        return WQ_EINVAL;
+    head[VAL] = val;
+    return WQ_OK;
 }

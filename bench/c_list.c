@@ -74,6 +74,50 @@ static ALWAYS_INLINE int32_t pend(struct list_queue *q, struct list_thread *t)
     return WQ_WAITS;
 }
 
+void list_queue_init(struct list_queue *q)
+{
+    queue_init(q);
+}
+
+int32_t list_queue_pend(struct list_queue *q, struct list_thread *t, uint32_t state)
+{
+    REFUSE_CALLER(q->len > WQ_MAX_WAITERS, t->priority, state);
+    return pend(q, t);
+}
+
+int32_t list_queue_unpend_first(struct list_queue *q, int32_t return_value, struct list_thread **who)
+{
+    if (CHECKED && q->len > WQ_MAX_WAITERS)
+        return WQ_EINVAL;
+    if (nobody_waits(q))
+        return 0;
+    *who = unlink_first(q, return_value);
+    return 1;
+}
+
+/* A thread does not know the queue that it is in, so that it is looked for; without refusals, it is in this one if it is
+ * in any. */
+int32_t list_queue_remove(struct list_queue *q, struct list_thread *t)
+{
+    if (CHECKED) {
+        const struct link *l = q->ends.next;
+        if (q->len > WQ_MAX_WAITERS)
+            return WQ_EINVAL;
+        while (l != &q->ends && l != &t->link)
+            l = l->next;
+        if (l == &q->ends)
+            return WQ_ENOENT;
+        q->len--;
+    } else if (t->link.next == NULL) {
+        return WQ_ENOENT;
+    }
+    t->link.prev->next = t->link.next;
+    t->link.next->prev = t->link.prev;
+    t->link.next = NULL;
+    t->link.prev = NULL;
+    return WQ_OK;
+}
+
 /* ---- Counting semaphore ----------------------------------------------------------------------- */
 
 static inline bool sem_malformed(const struct list_sem *s)
@@ -229,4 +273,43 @@ int32_t list_condvar_wait_blocking(struct list_condvar *c, struct list_mutex *m,
     if (CHECKED && result != WQ_WAITS)
         return result;
     return hand_over(m, who); /* which answers 1, that is WQ_WAITS, where it is free */
+}
+
+/* ---- Futex ------------------------------------------------------------------------------------ */
+
+int32_t list_futex_init(struct list_futex *f, uint32_t val)
+{
+    f->val = val;
+    queue_init(&f->queue);
+    return WQ_OK;
+}
+
+int32_t list_futex_wait(struct list_futex *f, uint32_t expected, struct list_thread *t, uint32_t state)
+{
+    REFUSE_CALLER(f->queue.len > WQ_MAX_WAITERS, t->priority, state);
+    if (f->val != expected)
+        return WQ_EAGAIN;
+    return pend(&f->queue, t);
+}
+
+int32_t list_futex_wake(struct list_futex *f, bool wake_all, struct list_thread **out, uint64_t out_len)
+{
+    if (CHECKED && (f->queue.len > WQ_MAX_WAITERS || (wake_all && out_len < f->queue.len)))
+        return WQ_EINVAL;
+    if (wake_all)
+        return unlink_all(&f->queue, WQ_OK, out);
+    if (nobody_waits(&f->queue))
+        return 0;
+    if (CHECKED && out_len == 0)
+        return WQ_EINVAL;
+    out[0] = unlink_first(&f->queue, WQ_OK);
+    return 1;
+}
+
+int32_t list_futex_val_set(struct list_futex *f, uint32_t val)
+{
+    if (CHECKED && f->queue.len > WQ_MAX_WAITERS)
+        return WQ_EINVAL;
+    f->val = val;
+    return WQ_OK;
 }

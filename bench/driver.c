@@ -119,7 +119,7 @@ static void run_group(const struct group *g, int samples, double reading)
 
 int main(int argc, char **argv)
 {
-    const struct group *groups[] = {&thread_group, &bytes_group, &slab_group};
+    const struct group *groups[] = {&thread_group, &bytes_group, &slab_group, &number_group, &refusal_group};
     double reading = reading_the_clock();
     for (size_t i = 0; i < COUNT_OF(groups); i++)
         if (groups[i] != NULL)

@@ -100,6 +100,52 @@ static inline uint32_t form_condvar_broadcast(form_condvar *c, uint32_t sum)
     return mix_all(sum, who, wq_condvar_broadcast(c->head, c->entry, who, WQ_MAX_WAITERS));
 }
 
+typedef struct wq_wait_queue form_queue;
+typedef struct wq_futex form_futex;
+
+#define HAVE_QUEUE
+static inline void form_queue_init(form_queue *q)
+{
+    wq_wait_queue_new(&q->len);
+}
+
+static inline int32_t form_queue_pend(form_queue *q, form_thread t, uint32_t priority)
+{
+    return wq_wait_queue_pend(&q->len, q->entry, form_thread_id(t), priority, WQ_RUNNING);
+}
+
+static inline int32_t form_queue_unpend_first(form_queue *q, form_thread *who)
+{
+    return wq_wait_queue_unpend_first(&q->len, q->entry, WQ_OK, who);
+}
+
+static inline int32_t form_queue_remove(form_queue *q, form_thread t)
+{
+    return wq_wait_queue_remove(&q->len, q->entry, form_thread_id(t));
+}
+
+#define HAVE_FUTEX
+static inline int32_t form_futex_init(form_futex *f, uint32_t val)
+{
+    return wq_futex_init(f->head, val);
+}
+
+static inline int32_t form_futex_wait(form_futex *f, uint32_t expected, form_thread t, uint32_t priority)
+{
+    return wq_futex_wait(f->head, f->entry, expected, form_thread_id(t), priority, WQ_RUNNING);
+}
+
+/* Of the first. */
+static inline int32_t form_futex_wake(form_futex *f, form_thread *who)
+{
+    return wq_futex_wake(f->head, f->entry, false, who, 1);
+}
+
+static inline int32_t form_futex_set(form_futex *f, uint32_t val)
+{
+    return wq_futex_val_set(f->head, f->entry, val);
+}
+
 #elif defined FORM_LIST
 
 struct link {
@@ -133,6 +179,11 @@ struct list_condvar {
     struct list_queue queue;
 };
 
+struct list_futex {
+    uint32_t val;
+    struct list_queue queue;
+};
+
 /* The answers are those of the functions of waitqueue.h. */
 int32_t list_sem_init(struct list_sem *s, uint32_t count, uint32_t limit);
 int32_t list_sem_give(struct list_sem *s, struct list_thread **who);
@@ -149,6 +200,18 @@ int32_t list_condvar_broadcast(struct list_condvar *c, struct list_thread **out,
 int32_t list_condvar_wait_blocking(struct list_condvar *c, struct list_mutex *m, struct list_thread *t, uint32_t state,
                                    struct list_thread **who);
 
+void list_queue_init(struct list_queue *q);
+int32_t list_queue_pend(struct list_queue *q, struct list_thread *t, uint32_t state);
+int32_t list_queue_unpend_first(struct list_queue *q, int32_t return_value, struct list_thread **who);
+int32_t list_queue_remove(struct list_queue *q, struct list_thread *t);
+
+int32_t list_futex_init(struct list_futex *f, uint32_t val);
+int32_t list_futex_wait(struct list_futex *f, uint32_t expected, struct list_thread *t, uint32_t state);
+int32_t list_futex_wake(struct list_futex *f, bool wake_all, struct list_thread **out, uint64_t out_len);
+int32_t list_futex_val_set(struct list_futex *f, uint32_t val);
+
+typedef struct list_queue form_queue;
+typedef struct list_futex form_futex;
 typedef struct list_sem form_sem;
 typedef struct list_mutex form_mutex;
 typedef struct list_condvar form_condvar;
@@ -156,7 +219,7 @@ typedef struct list_thread *form_thread;
 
 static inline form_thread form_thread_new(uint32_t id)
 {
-    static struct list_thread all[1024];
+    static struct list_thread all[4096];
     all[id].id = id;
     return &all[id];
 }
@@ -234,6 +297,50 @@ static inline uint32_t form_condvar_broadcast(form_condvar *c, uint32_t sum)
 {
     form_thread who[WQ_MAX_WAITERS];
     return mix_all(sum, who, list_condvar_broadcast(c, who, WQ_MAX_WAITERS));
+}
+
+#define HAVE_QUEUE
+static inline void form_queue_init(form_queue *q)
+{
+    list_queue_init(q);
+}
+
+static inline int32_t form_queue_pend(form_queue *q, form_thread t, uint32_t priority)
+{
+    t->priority = priority;
+    return list_queue_pend(q, t, WQ_RUNNING);
+}
+
+static inline int32_t form_queue_unpend_first(form_queue *q, form_thread *who)
+{
+    return list_queue_unpend_first(q, WQ_OK, who);
+}
+
+static inline int32_t form_queue_remove(form_queue *q, form_thread t)
+{
+    return list_queue_remove(q, t);
+}
+
+#define HAVE_FUTEX
+static inline int32_t form_futex_init(form_futex *f, uint32_t val)
+{
+    return list_futex_init(f, val);
+}
+
+static inline int32_t form_futex_wait(form_futex *f, uint32_t expected, form_thread t, uint32_t priority)
+{
+    t->priority = priority;
+    return list_futex_wait(f, expected, t, WQ_RUNNING);
+}
+
+static inline int32_t form_futex_wake(form_futex *f, form_thread *who)
+{
+    return list_futex_wake(f, false, who, 1);
+}
+
+static inline int32_t form_futex_set(form_futex *f, uint32_t val)
+{
+    return list_futex_val_set(f, val);
 }
 
 #elif defined FORM_GALE
