@@ -14,8 +14,11 @@ class Ratio:
     def __str__(self):
         return "%.2f (%.2f–%.2f)" % (self.whole, self.low, self.high)
 
-    def meets(self, aim):
-        return round(self.high, 2) <= aim
+    def verdict(self, aim):
+        """met: the upper end is at most the aim; missed: the lower end is above it; open: the aim is between them."""
+        if round(self.high, 2) <= aim:
+            return "met"
+        return "missed" if round(self.low, 2) > aim else "open"
 
 
 class Row:
