@@ -1,5 +1,6 @@
 pub mod Rings
 pub mod Parts
+pub mod Copying
 pub mod Headers
 pub mod Memory
 pub mod Answers

@@ -33,8 +33,8 @@ fn step(t: u32, n: u32) -> u32
     if t + 1 < n { t + 1 } else { 0 }
 }
 
-// The first of src, as many as dst has room for, go to the start of dst.
-pub fn copy(dst: &mut [u8], src: &[u8])
+// The first of src, as many as dst has room for, go to the start of dst, one by one.
+fn plain(dst: &mut [u8], src: &[u8])
     ensures { λ _. ⌜ Filled (take (length (now (dst .entry))) (now (src .entry))) (now (dst .entry)) (now (dst .exit)) ⌝ }
 {
     let n = least(src.len(), dst.len());
@@ -42,6 +42,67 @@ pub fn copy(dst: &mut [u8], src: &[u8])
     while i < n {
         dst[i] = src[i];
         i += 1;
+    }
+}
+
+// The bytes of src from i on, as many as t has room for, go to the same places of dst. All are read into t before one is
+// written, so that a compiler makes wide loads and stores of it and need not know that dst and src lie apart.
+fn block(dst: &mut [u8], src: &[u8], i: usize, t: &mut [u8])
+    requires { ⌜ (i + length (now t) ≤ length (now src)) × (i + length (now t) ≤ length (now dst)) ⌝ }
+    ensures { λ _. ⌜ now (dst .exit) ≡ paste (now (dst .entry)) i (drop i (now (src .entry))) (length (now (t .entry))) ⌝ }
+{
+    let e = i + t.len();
+    plain(t, &src[i..e]);
+    plain(&mut dst[i..e], t);
+}
+
+// The first of src, as many as dst has room for, go to the start of dst, in blocks as long as t. There are n of them; the last
+// block ends at n, over what the one before it wrote.
+fn blocks(dst: &mut [u8], src: &[u8], n: usize, t: &mut [u8])
+    requires { ⌜ (0 < length (now t)) × ((length (now t) ≤ n) × (n ≡ min (length (now src)) (length (now dst)))) ⌝ }
+    ensures { λ _. ⌜ Filled (take (length (now (dst .entry))) (now (src .entry))) (now (dst .entry)) (now (dst .exit)) ⌝ }
+{
+    let k = t.len();
+    let mut i = 0;
+    while i + k < n {
+        block(dst, src, i, t);
+        i += k;
+    }
+    block(dst, src, n - k, t);
+}
+
+// The first of src, as many as dst has room for, go to the start of dst.
+pub fn copy(dst: &mut [u8], src: &[u8])
+    ensures { λ _. ⌜ Filled (take (length (now (dst .entry))) (now (src .entry))) (now (dst .entry)) (now (dst .exit)) ⌝ }
+{
+    let n = least(src.len(), dst.len());
+    if 32 <= n {
+        let mut t = [0; 32];
+        blocks(dst, src, n, &mut t);
+        return;
+    }
+    if 16 <= n {
+        let mut t = [0; 16];
+        blocks(dst, src, n, &mut t);
+        return;
+    }
+    if 8 <= n {
+        let mut t = [0; 8];
+        blocks(dst, src, n, &mut t);
+        return;
+    }
+    if 4 <= n {
+        let mut t = [0; 4];
+        blocks(dst, src, n, &mut t);
+        return;
+    }
+    if 2 <= n {
+        let mut t = [0; 2];
+        blocks(dst, src, n, &mut t);
+        return;
+    }
+    if n == 1 {
+        dst[0] = src[0];
     }
 }
 

@@ -1,60 +1,123 @@
--- The loop: as many as it has run are copied. Assumes nothing.
-use mathlib.Core.Path.{_≡_, refl, ap, _∙_}
-use mathlib.Core.List.{_++_}
-use Prim.Native.Nat.{_-_, _≤_}
+-- By how many there are. Assumes nothing.
+use mathlib.Core.Path.{refl}
 use native.Mathlib.Omega.{arith}
-use native.Mathlib.Numerals.{add-one}
-use lib.ListN.{length, take, drop, length-set, set, getD}
 use Rattle.ring_buf.proofs.Parts.{copied, filled}
 use borrow.Author.Needs.{needs}
 use Rattle.ring_buf.proofs.copy.Statement.{statement}
 use Rattle.ring_buf.proofs.copy.Tie as tie
 
-abbrev Inv-loop : tie.InvT-loop
-Inv-loop dst₀ src n i₀ dst i = (i ≤ n) × ((length dst ≡ length dst₀) × (dst ≡ take i src ++ drop i dst₀))
-
-abbrev μ-loop : tie.MeasureT-loop
-μ-loop dst₀ src n i₀ dst i = n - i
-
-least-requires : tie.Need-least-requires Inv-loop μ-loop
+least-requires : tie.Need-least-requires
 least-requires c κs = search needs
 
-loop-holds : tie.Need-loop-holds Inv-loop μ-loop
-loop-holds c = (omega arith, (refl, refl))
+slice-aggregate-blocks : tie.Need-slice-aggregate-blocks
+slice-aggregate-blocks c = search needs
 
-shared-slice-read-dst : tie.Need-shared-slice-read-dst Inv-loop μ-loop
-shared-slice-read-dst c = omega arith
+blocks-requires : tie.Need-blocks-requires
+blocks-requires c κs = search needs
 
-slice-write-dst : tie.Need-slice-write-dst Inv-loop μ-loop
-slice-write-dst c = omega arith
-
-add-i : tie.Need-add-i Inv-loop μ-loop
-add-i c = omega arith
-
-loop-less : tie.Need-loop-less Inv-loop μ-loop
-loop-less c = omega arith
-
-loop-again : tie.Need-loop-again Inv-loop μ-loop
-loop-again c = (omega arith, (simp length-set (c .before .before .loop .inv .1 .0), rw add-one (ap (λ l. set l (c .before .before .loop .i) (getD (c .before .before .before .before .before .before .args .src .now) (c .before .before .loop .i) 0)) (c .before .before .loop .inv .1 .1) ∙ copied (c .before .before .before .before .before .before .args .dst .now) (c .before .before .before .before .before .before .args .src .now) (c .before .before .loop .i) (omega arith) (omega arith))))
-
-same-length : tie.Need-same-length Inv-loop μ-loop
+same-length : tie.Need-same-length
 same-length c = search needs
 
-returns : tie.Need-returns Inv-loop μ-loop
-returns c = filled _ _ _ (c .before .before .least .result) (c .before .loop .i) (c .before .before .least .ensures) (omega arith) (omega arith) (c .before .loop .inv .1 .1)
+returns : tie.Need-returns
+returns c = c .before .before .before .blocks2 .ensures
+
+slice-aggregate-blocks-2 : tie.Need-slice-aggregate-blocks-2
+slice-aggregate-blocks-2 c = search needs
+
+blocks-requires-2 : tie.Need-blocks-requires-2
+blocks-requires-2 c κs = search needs
+
+same-length-2 : tie.Need-same-length-2
+same-length-2 c = search needs
+
+returns-2 : tie.Need-returns-2
+returns-2 c = c .before .before .before .blocks3 .ensures
+
+slice-aggregate-blocks-3 : tie.Need-slice-aggregate-blocks-3
+slice-aggregate-blocks-3 c = search needs
+
+blocks-requires-3 : tie.Need-blocks-requires-3
+blocks-requires-3 c κs = search needs
+
+same-length-3 : tie.Need-same-length-3
+same-length-3 c = search needs
+
+returns-3 : tie.Need-returns-3
+returns-3 c = c .before .before .before .blocks4 .ensures
+
+slice-aggregate-blocks-4 : tie.Need-slice-aggregate-blocks-4
+slice-aggregate-blocks-4 c = search needs
+
+blocks-requires-4 : tie.Need-blocks-requires-4
+blocks-requires-4 c κs = search needs
+
+same-length-4 : tie.Need-same-length-4
+same-length-4 c = search needs
+
+returns-4 : tie.Need-returns-4
+returns-4 c = c .before .before .before .blocks5 .ensures
+
+slice-aggregate-blocks-5 : tie.Need-slice-aggregate-blocks-5
+slice-aggregate-blocks-5 c = search needs
+
+blocks-requires-5 : tie.Need-blocks-requires-5
+blocks-requires-5 c κs = search needs
+
+same-length-5 : tie.Need-same-length-5
+same-length-5 c = search needs
+
+returns-5 : tie.Need-returns-5
+returns-5 c = c .before .before .before .blocks6 .ensures
+
+shared-slice-read-dst : tie.Need-shared-slice-read-dst
+shared-slice-read-dst c = search needs
+
+slice-write-dst : tie.Need-slice-write-dst
+slice-write-dst c = search needs
+
+same-length-6 : tie.Need-same-length-6
+same-length-6 c = search needs
+
+returns-6 : tie.Need-returns-6
+returns-6 c =
+    let a = c .before .before .before .before .before .before .before .before .before .before .args in
+    let m = c .before .before .before .before .before .before .before .least in
+    filled (a .dst .now) (a .src .now) _ (m .result) 1 (m .ensures) (omega arith) (omega arith)
+    (copied (a .dst .now) (a .src .now) 0 (omega arith) (omega arith))
+
+returns-7 : tie.Need-returns-7
+returns-7 c =
+    let a = c .before .before .before .before .before .before .before .before .before .args in
+    let m = c .before .before .before .before .before .before .least in
+    filled (a .dst .now) (a .src .now) _ (m .result) 0 (m .ensures) (omega arith) (omega arith) refl
 
 pub copy-spec : {M : Type 1} → statement M
 copy-spec =
     tie.close
     (tie.spec
-    Inv-loop
-    μ-loop
     least-requires
-    loop-holds
+    slice-aggregate-blocks
+    blocks-requires
+    same-length
+    returns
+    slice-aggregate-blocks-2
+    blocks-requires-2
+    same-length-2
+    returns-2
+    slice-aggregate-blocks-3
+    blocks-requires-3
+    same-length-3
+    returns-3
+    slice-aggregate-blocks-4
+    blocks-requires-4
+    same-length-4
+    returns-4
+    slice-aggregate-blocks-5
+    blocks-requires-5
+    same-length-5
+    returns-5
     shared-slice-read-dst
     slice-write-dst
-    add-i
-    loop-less
-    loop-again
-    same-length
-    returns)
+    same-length-6
+    returns-6
+    returns-7)
