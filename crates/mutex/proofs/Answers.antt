@@ -380,6 +380,14 @@ module _ (h e : List ℕ) where
         waits-now mutex-kind layout plain i p st lock h e tt waits r m e' (omega arith) its-words (rw (lt-ltb 0 (getD h 0 0) f) (lt-ltb 0 (getD h 2 0) c))
         (rw (lt-ltb 0 (getD h 0 0) f, ne-eqb (getD h 1 0) i n)) d (fewer h its-words m)
 
+-- no lock: nobody unlocks, whatever else is wrong
+pub unlock-lockless : (h e : List ℕ) (i w : ℕ) → getD h 2 0 ≡ 0 → Unlocks h e i w einval h w
+unlock-lockless h e i w c = go (sane mutex-kind layout h e) refl
+  where
+    go : (b : Bool) → sane mutex-kind layout h e ≡ b → Unlocks h e i w einval h w
+    go true s = unlock-free h e s i w c
+    go false s = unlock-no h e i w s
+
 -- the last unlock alone
 module _ (h e : List ℕ) (w : ℕ) where
   abbrev pub Passes : ℤ → List ℕ → ℕ → Type 0
@@ -400,6 +408,11 @@ module _ (h e : List ℕ) (w : ℕ) where
       pass-free z =
           let o : passOut (layout .num h) (waiting e (getD h 3 0)) ≡ record { num = free; turn = record { code = unlocked; queue = waiting e (getD h 3 0); woken = [] } } = rw z in
           (renumbered layout passOut h e 1 free (set (set h 0 0) 2 0) there o (freed h k), rw (is-on layout passOut h e there ∙ o) refl)
+
+      -- whom it tells does not depend on what stood there
+      pub retold : (m v w' : ℕ) → 0 < m → roomy m e ≡ true → Told (at (unpendFirst ok) m e .woken) v w' → Told (at (unpendFirst ok) m e .woken) w w'
+      retold zero v w' z q t = absurd (omega arith)
+      retold (suc m) v w' z q t = let y : w' ≡ woken ok (getD e m 0) = rw q at t in rw q y
 
       pub pass-first : (a : ℤ) (n w' : ℕ) → 0 < getD h 3 0 → queue.Does (unpendFirst ok) (getD h 3 0) e a n e
           → Told (at (unpendFirst ok) (getD h 3 0) e .woken) w w' → Passes transferred (set (set (set (set h 3 n) 0 1) 1 (ident w')) 2 1) w'

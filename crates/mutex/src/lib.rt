@@ -232,10 +232,12 @@ pub fn pass(h: &mut [u32], e: &[u64], who: &mut u64) -> i32
         h[2] = 0;
         return UNLOCKED;
     }
-    wait_queue::unpend_first(&mut h[3], e, OK, who);
+    let mut next = 0;
+    wait_queue::unpend_first(&mut h[3], e, OK, &mut next);
     h[0] = 1;
-    h[1] = (*who % 4294967296) as u32;
+    h[1] = (next % 4294967296) as u32;
     h[2] = 1;
+    *who = next;
     TRANSFERRED
 }
 
@@ -245,11 +247,17 @@ pub fn unlock(h: &mut [u32], e: &[u64], id: u32, who: &mut u64) -> i32
     ensures { λ r. ⌜ Told (on layout (unlockOut id) (now (h .entry)) (now (e .entry)) .turn .woken) (now (who .entry)) (now (who .exit)) ⌝ }
     ensures { λ r. ⌜ Written (now (h .entry)) (now (h .exit)) ⌝ }
 {
-    if !formed(h, e) {
+    if !kind::housed(h, 4, e) {
         return EINVAL;
     }
     let held = h[2];
     if held == 0 {
+        return EINVAL;
+    }
+    if h[0] == 0 {
+        return EINVAL;
+    }
+    if !wait_queue::fits(h[3], e) {
         return EINVAL;
     }
     if h[1] != id {

@@ -4,14 +4,17 @@ use native.Mathlib.Omega.{arith}
 use lib.ListN.{set, length-set}
 use borrow.Author.Tests.{not-true, not-false}
 use Rattle.wait_queue.specs.Queue.{ident}
-use Rattle.mutex.proofs.Answers.{pass-short, pass-no, pass-free, pass-first}
+use Rattle.mutex.proofs.Answers.{pass-short, pass-no, pass-free, pass-first, retold}
 use Rattle.mutex.proofs.Written.{unwritten, frees, passes}
 use borrow.Author.Needs.{needs}
 use Rattle.mutex.proofs.pass.Statement.{statement}
 use Rattle.mutex.proofs.pass.Tie as tie
 
 returns : tie.Need-returns
-returns c = let a = c .before .before .before .args in let t = pass-short (a .h .now) (a .e .now) (a .who .now) (omega arith) in (t .0, (t .1, unwritten (a .h .now)))
+returns c =
+    let a = c .before .before .before .args in
+    let t = pass-short (a .h .now) (a .e .now) (a .who .now) (omega arith) in
+    (t .0, (t .1, unwritten (a .h .now)))
 
 slice-read-waits : tie.Need-slice-read-waits
 slice-read-waits c = search needs
@@ -20,7 +23,10 @@ fits-requires : tie.Need-fits-requires
 fits-requires c κs = search needs
 
 returns-2 : tie.Need-returns-2
-returns-2 c = let a = c .before .before .before .before .before .before .args in let t = pass-no (a .h .now) (a .e .now) (a .who .now) (omega arith) (sym (c .before .fits2 .ensures) ∙ not-true _ (c .if2 .taken)) in (t .0, (t .1, unwritten (a .h .now)))
+returns-2 c =
+    let a = c .before .before .before .before .before .before .args in
+    let t = pass-no (a .h .now) (a .e .now) (a .who .now) (omega arith) (sym (c .before .fits2 .ensures) ∙ not-true _ (c .if2 .taken)) in
+    (t .0, (t .1, unwritten (a .h .now)))
 
 slice-write-h : tie.Need-slice-write-h
 slice-write-h c = search needs
@@ -32,7 +38,10 @@ same-length : tie.Need-same-length
 same-length c = search needs
 
 returns-3 : tie.Need-returns-3
-returns-3 c = let a = c .before .before .before .before .before .before .before .args in let t = pass-free (a .h .now) (a .e .now) (a .who .now) (omega arith) (sym (c .before .before .fits2 .ensures) ∙ not-false _ (c .before .if2 .left)) (omega arith) in (t .0, (t .1, frees (a .h .now) (omega arith)))
+returns-3 c =
+    let a = c .before .before .before .before .before .before .before .args in
+    let t = pass-free (a .h .now) (a .e .now) (a .who .now) (omega arith) (sym (c .before .before .fits2 .ensures) ∙ not-false _ (c .before .if2 .left)) (omega arith) in
+    (t .0, (t .1, frees (a .h .now) (omega arith)))
 
 index-1-unpend-first : tie.Need-index-1-unpend-first
 index-1-unpend-first c = search needs
@@ -41,22 +50,36 @@ unpend-first-requires : tie.Need-unpend-first-requires
 unpend-first-requires c κs = search needs
 
 slice-write-h-3 : tie.Need-slice-write-h-3
-slice-write-h-3 c = let a = c .before .before .before .before .before .before .before .before .before .before .args in omega (arith, length-set (a .h .now) 3 (c .unpend-first .last .0))
+slice-write-h-3 c =
+    let a = c .before .before .before .before .before .before .before .before .before .before .args in
+    omega (arith, length-set (a .h .now) 3 (c .unpend-first .last .0))
 
 cast-h : tie.Need-cast-h
 cast-h c = search needs
 
 slice-write-h-4 : tie.Need-slice-write-h-4
-slice-write-h-4 c = let a = c .before .before .before .before .before .before .before .before .before .before .before .args in let k = c .before .unpend-first .last .0 in omega (arith, length-set (a .h .now) 3 k, length-set (set (a .h .now) 3 k) 0 1)
+slice-write-h-4 c =
+    let a = c .before .before .before .before .before .before .before .before .before .before .args in
+    let k = c .unpend-first .last .0 in
+    omega (arith, length-set (a .h .now) 3 k, length-set (set (a .h .now) 3 k) 0 1)
 
 slice-write-h-5 : tie.Need-slice-write-h-5
-slice-write-h-5 c = let a = c .before .before .before .before .before .before .before .before .before .before .before .args in let k = c .before .unpend-first .last .0 in let w = c .before .unpend-first .last .1 .1 .1 .0 in omega (arith, length-set (a .h .now) 3 k, length-set (set (a .h .now) 3 k) 0 1, length-set (set (set (a .h .now) 3 k) 0 1) 1 (ident w))
+slice-write-h-5 c =
+    let a = c .before .before .before .before .before .before .before .before .before .before .args in
+    let k = c .unpend-first .last .0 in
+    let w = c .unpend-first .last .1 .1 .1 .0 in
+    omega (arith, length-set (a .h .now) 3 k, length-set (set (a .h .now) 3 k) 0 1, length-set (set (set (a .h .now) 3 k) 0 1) 1 (ident w))
 
 same-length-2 : tie.Need-same-length-2
 same-length-2 c = search needs
 
 returns-4 : tie.Need-returns-4
-returns-4 c = let a = c .before .before .before .before .before .before .before .before .before .before .before .args in let u = c .before .unpend-first in let t = pass-first (a .h .now) (a .e .now) (a .who .now) (omega arith) (sym (c .before .before .before .before .before .before .fits2 .ensures) ∙ not-false _ (c .before .before .before .before .before .if2 .left)) (u .result) (u .last .0) (u .last .1 .1 .1 .0) (omega arith) (u .ensures .0) (u .ensures .1) in (t .0, (t .1, passes (a .h .now) (omega arith) (a .e .now) (u .result) (u .last .0) (a .e .now) _ (sym (c .before .before .before .before .before .before .fits2 .ensures) ∙ not-false _ (c .before .before .before .before .before .if2 .left)) (omega arith) (u .ensures .0)))
+returns-4 c =
+    let a = c .before .before .before .before .before .before .before .before .before .before .args in
+    let u = c .unpend-first in
+    let r = sym (c .before .before .before .before .before .fits2 .ensures) ∙ not-false _ (c .before .before .before .before .if2 .left) in
+    let t = pass-first (a .h .now) (a .e .now) (a .who .now) (omega arith) r (u .result) (u .last .0) (u .last .1 .1 .1 .0) (omega arith) (u .ensures .0) (retold (a .h .now) (a .e .now) (a .who .now) (omega arith) r _ 0 (u .last .1 .1 .1 .0) (omega arith) r (u .ensures .1)) in
+    (t .0, (t .1, passes (a .h .now) (omega arith) (a .e .now) (u .result) (u .last .0) (a .e .now) _ r (omega arith) (u .ensures .0)))
 
 pub pass-spec : {M : Type 1} → statement M
 pass-spec =
