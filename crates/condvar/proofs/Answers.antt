@@ -11,9 +11,10 @@ use borrow.Author.Tests.{lt-ltb, le-leb, lt-leb, ltb-true, ltb-false}
 use Rattle.thread.specs.Code.{ok, eagain, einval}
 use Rattle.thread.specs.Caller.{callerCode}
 use Rattle.wait_queue.specs.Queue.{maxWaiters, entry, ident, waiting, roomy, holds}
-use Rattle.wait_queue.specs.Turn.{at, waits, pend, unpendFirst, unpendAll}
+use Rattle.wait_queue.specs.Turn.{at, waits, parked, pend, unpendFirst, unpendAll}
 use Rattle.wait_queue.specs.Post.{Told, Listed}
 use Rattle.wait_queue.specs.Post as queue
+use Rattle.wait_queue.proofs.Answers.{pend-parks}
 use Rattle.kind.specs.Verdict.{everybody, wake, allow}
 use Rattle.kind.specs.Kind.{plain}
 use Rattle.kind.specs.Object.{Out, anyone, on, Does, sane}
@@ -22,7 +23,7 @@ use Rattle.kind.proofs.Answers.{any-line, length-line, Tells, Lists, silent, un
 use Rattle.mutex.specs.Mutex.{Mutex}
 use Rattle.mutex.specs.Post as mutex
 use Rattle.mutex.specs.Post.{passOut, releaseOut}
-use Rattle.mutex.proofs.Answers.{release-passes}
+use Rattle.mutex.proofs.Answers.{release-passes, release-asks}
 use Rattle.mutex.proofs.Written.{unwritten}
 use Rattle.condvar.specs.Condvar.{signal, broadcast, wait, condvar-kind}
 use Rattle.condvar.specs.Post.{layout, signalOut, broadcastOut, waitOut, getOut, hasWaiters, Starts, Waited, SignalDecided, BroadcastDecided, WaitDecided}
@@ -144,6 +145,10 @@ module _ (i p st : ℕ) (h e m d : List ℕ) (w : ℕ) where
 
   -- the condition variable refuses
   module _ (a : ℕ) (z : release ≡ pos a) where
+    -- the mutex has looked at the caller's numbers
+    pub wait-asked : (n : ℕ) (r : ℤ) (n' : ℕ) (e' : List ℕ) → queue.Does (parked (entry p i)) n e r n' e' → queue.Does (pend i p st) n e r n' e'
+    wait-asked n r n' e' q = pend-parks n e i p st _ (release-asks m d i p st a z) r n' e' q
+
     pub wait-short : length h < 1 → Waited i p st h e m d w einval h e m w
     wait-short b = record { code = rw (z, lt-leb 1 (length h) b); neither = (refl, refl, refl, refl); both = tt; written = unwritten m }
 

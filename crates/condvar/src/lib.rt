@@ -110,7 +110,7 @@ pub fn wait_blocking(
     if h.len() < 1 {
         return EINVAL;
     }
-    let joined = wait_queue::pend(&mut h[0], e, id, priority, state);
+    let joined = wait_queue::enter(&mut h[0], e, id, priority);
     if joined < 0 {
         return joined;
     }

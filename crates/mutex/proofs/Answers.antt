@@ -7,6 +7,7 @@ use native.Mathlib.Numerals.{add-one}
 use native.Mathlib.Omega.{arith}
 use lib.Dec.{ltb, eqb}
 use lib.IntN.{ℤ, pos, negsuc}
+use lib.Signed.{mag}
 use lib.ListN.{length, getD, set}
 use borrow.Author.Tests.{le-leb, lt-leb, lt-ltb, le-ltb, ltb-true, ltb-false, eq-eqb, ne-eqb}
 use Rattle.seq.specs.List.{any}
@@ -442,6 +443,18 @@ release-passes h e i p st k y = go (sane mutex-kind layout h e) (callerCode p st
     go false z s c = never 21 (sym (release-no h e i p st s))
     go true (negsuc r) s c = never r (sym (release-caller h e s i p st r c))
     go true (pos n) s c = passes-too h e s i p st n k c y
+
+-- a release that is allowed is by a thread that may wait
+pub release-asks : (h e : List ℕ) (i p st k : ℕ) → on layout (releaseOut i p st) h e .turn .code ≡ pos k → callerCode p st ≡ pos (mag (callerCode p st))
+release-asks h e i p st k y = go (sane mutex-kind layout h e) (callerCode p st) refl refl
+  where
+    never : (r : ℕ) → on layout (releaseOut i p st) h e .turn .code ≡ negsuc r → callerCode p st ≡ pos (mag (callerCode p st))
+    never r x = let u : negsuc r ≡ pos k = sym x ∙ y in absurd (let v : _≡_ {A = ℕ} 0 1 = cc in omega arith)
+
+    go : (b : Bool) (z : ℤ) → sane mutex-kind layout h e ≡ b → callerCode p st ≡ z → callerCode p st ≡ pos (mag (callerCode p st))
+    go false z s c = never 21 (sym (release-no h e i p st s))
+    go true (negsuc r) s c = never r (sym (release-caller h e s i p st r c))
+    go true (pos n) s c = rw c refl
 
 -- init
 module _ (h : List ℕ) where

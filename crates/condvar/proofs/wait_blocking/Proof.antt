@@ -3,7 +3,7 @@ use mathlib.Core.Path.{sym, _∙_}
 use native.Mathlib.Omega.{arith}
 use lib.Signed.{mag}
 use Rattle.seq.proofs.Integers.{answered, negative, positive}
-use Rattle.condvar.proofs.Answers.{wait-mutex, wait-short, wait-queue, wait-both}
+use Rattle.condvar.proofs.Answers.{wait-mutex, wait-short, wait-asked, wait-queue, wait-both}
 use borrow.Author.Needs.{needs}
 use Rattle.condvar.proofs.wait_blocking.Statement.{statement}
 use Rattle.condvar.proofs.wait_blocking.Tie as tie
@@ -23,11 +23,11 @@ same-length-2 c = search needs
 returns-2 : tie.Need-returns-2
 returns-2 c = let a = c .before .before .before .before .before .before .before .before .args in let d = c .before .before .release-decide in let z = positive (d .result) (rw (answered {z = d .result} (d .ok)) at (c .before .if1 .left)) in wait-short (a .id) (a .priority) (a .state) (a .h .now) (a .e .now) (a .mutex-h .now) (a .mutex-e .now) (a .who .now) (mag (d .result)) (sym (d .ensures) ∙ z) (omega arith)
 
-index-1-pend : tie.Need-index-1-pend
-index-1-pend c = search needs
+index-1-enter : tie.Need-index-1-enter
+index-1-enter c = search needs
 
-pend-requires : tie.Need-pend-requires
-pend-requires c κs = search needs
+enter-requires : tie.Need-enter-requires
+enter-requires c κs = search needs
 
 same-length-3 : tie.Need-same-length-3
 same-length-3 c = search needs
@@ -39,7 +39,7 @@ same-length-5 : tie.Need-same-length-5
 same-length-5 c = search needs
 
 returns-3 : tie.Need-returns-3
-returns-3 c = let a = c .before .before .before .before .before .before .before .before .before .before .before .before .before .before .args in let d = c .before .before .before .before .before .before .before .before .release-decide in let u = c .before .before .before .pend in let z = positive (d .result) (rw (answered {z = d .result} (d .ok)) at (c .before .before .before .before .before .before .before .if1 .left)) in let y = negative (u .result) (rw (answered {z = u .result} (u .ok)) at (c .if3 .taken)) in rw (answered {z = u .result} (u .ok), y) (wait-queue (a .id) (a .priority) (a .state) (a .h .now) (a .e .now) (a .mutex-h .now) (a .mutex-e .now) (a .who .now) (mag (d .result)) (sym (d .ensures) ∙ z) (omega arith) (u .result) (u .last .0) (u .last .1 .0) (u .ensures) (mag (u .result)) y)
+returns-3 c = let a = c .before .before .before .before .before .before .before .before .before .before .before .before .before .before .args in let d = c .before .before .before .before .before .before .before .before .release-decide in let u = c .before .before .before .enter in let z = positive (d .result) (rw (answered {z = d .result} (d .ok)) at (c .before .before .before .before .before .before .before .if1 .left)) in let y = negative (u .result) (rw (answered {z = u .result} (u .ok)) at (c .if3 .taken)) in rw (answered {z = u .result} (u .ok), y) (wait-queue (a .id) (a .priority) (a .state) (a .h .now) (a .e .now) (a .mutex-h .now) (a .mutex-e .now) (a .who .now) (mag (d .result)) (sym (d .ensures) ∙ z) (omega arith) (u .result) (u .last .0) (u .last .1 .0) (wait-asked (a .id) (a .priority) (a .state) (a .h .now) (a .e .now) (a .mutex-h .now) (a .mutex-e .now) (a .who .now) (mag (d .result)) (sym (d .ensures) ∙ z) _ (u .result) (u .last .0) (u .last .1 .0) (u .ensures)) (mag (u .result)) y)
 
 pass-requires : tie.Need-pass-requires
 pass-requires c κs = search needs
@@ -54,7 +54,7 @@ same-length-8 : tie.Need-same-length-8
 same-length-8 c = search needs
 
 returns-4 : tie.Need-returns-4
-returns-4 c = let a = c .before .before .before .before .before .before .before .before .before .before .before .before .before .before .before .before .before .before .before .args in let d = c .before .before .before .before .before .before .before .before .before .before .before .before .before .release-decide in let u = c .before .before .before .before .before .before .before .before .pend in let v = c .before .before .pass in let z = positive (d .result) (rw (answered {z = d .result} (d .ok)) at (c .before .before .before .before .before .before .before .before .before .before .before .before .if1 .left)) in let y = positive (u .result) (rw (answered {z = u .result} (u .ok)) at (c .before .before .before .before .before .if3 .left)) in rw (answered {z = d .result} (d .ok), z) (wait-both (a .id) (a .priority) (a .state) (a .h .now) (a .e .now) (a .mutex-h .now) (a .mutex-e .now) (a .who .now) (mag (d .result)) (sym (d .ensures) ∙ z) (omega arith) (u .result) (u .last .0) (u .last .1 .0) (u .ensures) (mag (u .result)) y (v .last .0) (v .last .1 .1 .0) (v .result) (v .ensures .0) (v .ensures .1 .0) (v .ensures .1 .1))
+returns-4 c = let a = c .before .before .before .before .before .before .before .before .before .before .before .before .before .before .before .before .before .before .before .args in let d = c .before .before .before .before .before .before .before .before .before .before .before .before .before .release-decide in let u = c .before .before .before .before .before .before .before .before .enter in let v = c .before .before .pass in let z = positive (d .result) (rw (answered {z = d .result} (d .ok)) at (c .before .before .before .before .before .before .before .before .before .before .before .before .if1 .left)) in let y = positive (u .result) (rw (answered {z = u .result} (u .ok)) at (c .before .before .before .before .before .if3 .left)) in rw (answered {z = d .result} (d .ok), z) (wait-both (a .id) (a .priority) (a .state) (a .h .now) (a .e .now) (a .mutex-h .now) (a .mutex-e .now) (a .who .now) (mag (d .result)) (sym (d .ensures) ∙ z) (omega arith) (u .result) (u .last .0) (u .last .1 .0) (wait-asked (a .id) (a .priority) (a .state) (a .h .now) (a .e .now) (a .mutex-h .now) (a .mutex-e .now) (a .who .now) (mag (d .result)) (sym (d .ensures) ∙ z) _ (u .result) (u .last .0) (u .last .1 .0) (u .ensures)) (mag (u .result)) y (v .last .0) (v .last .1 .1 .0) (v .result) (v .ensures .0) (v .ensures .1 .0) (v .ensures .1 .1))
 
 pub wait-blocking-spec : {M : Type 1} → statement M
 wait-blocking-spec =
@@ -65,8 +65,8 @@ wait-blocking-spec =
     returns
     same-length-2
     returns-2
-    index-1-pend
-    pend-requires
+    index-1-enter
+    enter-requires
     same-length-3
     same-length-4
     same-length-5
