@@ -9,7 +9,8 @@ use Rattle.seq.specs.Only.{Only}
 use Rattle.seq.specs.List.{back}
 use Rattle.seq.proofs.Back.{back-length}
 use Rattle.seq.proofs.Only.{said, and, exactly, back-alike, alike-only}
-use Rattle.wait_queue.specs.Turn.{Turn, at, pend, unpendFirst, unpendAll, remove}
+use Rattle.wait_queue.specs.Queue.{entry}
+use Rattle.wait_queue.specs.Turn.{Turn, at, pend, unpendFirst, unpendAll, remove, parked}
 use Rattle.wait_queue.specs.Post.{Does, Told, Audited}
 use Rattle.wait_queue.specs.Determined.{Determined}
 
@@ -50,6 +51,7 @@ determined =
       len = λ n e. said _;
       is-empty = λ n e. said _;
       holds = λ n e i. said _;
+      enter = λ i p. does-only (parked (entry p i));
       pend = λ i p st. does-only (pend i p st);
       unpend-first = λ z n e w. and _ _ (reads-only (unpendFirst z) n e) (told-only (at (unpendFirst z) n e .woken) w);
       unpend-all = λ z n e out. and _ _ (reads-only (unpendAll z (length out)) n e) (said _);

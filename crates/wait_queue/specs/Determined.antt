@@ -9,8 +9,8 @@ use lib.IntN.{ℤ, pos}
 use lib.ListN.{length}
 use Rattle.seq.specs.Only.{Only}
 use Rattle.thread.specs.Caller.{callerCode}
-use Rattle.wait_queue.specs.Queue.{maxWaiters, waiting, roomy, holds as holdsOf}
-use Rattle.wait_queue.specs.Turn.{at, pend as pends, unpendFirst, unpendAll, remove as removes}
+use Rattle.wait_queue.specs.Queue.{maxWaiters, waiting, roomy, holds as holdsOf, entry}
+use Rattle.wait_queue.specs.Turn.{at, pend as pends, unpendFirst, unpendAll, remove as removes, parked}
 use Rattle.wait_queue.specs.Post.{Does, Told, Listed, number, isEmpty, Audited}
 
 pub record Determined : Type 0 where
@@ -21,6 +21,7 @@ pub record Determined : Type 0 where
   pub len : (n : ℕ) (e : List ℕ) → Only (λ (r : ℤ). r ≡ number n e (pos n))
   pub is-empty : (n : ℕ) (e : List ℕ) → Only (λ (r : ℤ). r ≡ number n e (isEmpty n))
   pub holds : (n : ℕ) (e : List ℕ) (i : ℕ) → Only (λ (r : Bool). r ≡ cond (roomy n e) (holdsOf i (waiting e n)) false)
+  pub enter : (i p n : ℕ) (e : List ℕ) → Only (λ ((r, n', e') : ℤ × ℕ × List ℕ). Does (parked (entry p i)) n e r n' e')
   pub pend : (i p st n : ℕ) (e : List ℕ) → Only (λ ((r, n', e') : ℤ × ℕ × List ℕ). Does (pends i p st) n e r n' e')
   pub unpend-first : (z : ℤ) (n : ℕ) (e : List ℕ) (w : ℕ)
       → Only (λ ((r, n', w') : ℤ × ℕ × ℕ). Does (unpendFirst z) n e r n' e × Told (at (unpendFirst z) n e .woken) w w')
