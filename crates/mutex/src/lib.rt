@@ -251,18 +251,6 @@ pub fn unlock(h: &mut [u32], e: &[u64], id: u32, who: &mut u64) -> i32
         return EINVAL;
     }
     let held = h[2];
-    if held == 1 {
-        if h[0] == 0 {
-            return EINVAL;
-        }
-        if !wait_queue::fits(h[3], e) {
-            return EINVAL;
-        }
-        if h[1] != id {
-            return EPERM;
-        }
-        return pass(h, e, who);
-    }
     if held == 0 {
         return EINVAL;
     }
@@ -275,8 +263,11 @@ pub fn unlock(h: &mut [u32], e: &[u64], id: u32, who: &mut u64) -> i32
     if h[1] != id {
         return EPERM;
     }
-    h[2] = held - 1;
-    RELEASED
+    if 1 < held {
+        h[2] = held - 1;
+        return RELEASED;
+    }
+    pass(h, e, who)
 }
 
 // What a wait at a condition variable would do to the mutex: UNLOCKED, TRANSFERRED; EPERM, EDEADLK: the thread holds it more than once.

@@ -26,16 +26,25 @@ slice-read-held c =
     let a = c .before .before .before .before .before .before .args in
     omega (arith, its-words (a .h .now) (a .e .now) (sym (c .before .before .housed .ensures) ∙ not-false _ (c .before .if1 .left)))
 
-slice-read-if3 : tie.Need-slice-read-if3
-slice-read-if3 c =
-    let a = c .before .before .before .before .before .before .before .before .args in
-    omega (arith, its-words (a .h .now) (a .e .now) (sym (c .before .before .before .before .housed .ensures) ∙ not-false _ (c .before .before .before .if1 .left)))
-
 same-length-2 : tie.Need-same-length-2
 same-length-2 c = search needs
 
 returns-2 : tie.Need-returns-2
 returns-2 c =
+    let a = c .before .before .before .before .before .before .before .args in
+    let t = unlock-lockless (a .h .now) (a .e .now) (a .id) (a .who .now) (omega arith) in
+    (t .0, (t .1, unwritten (a .h .now)))
+
+slice-read-if3 : tie.Need-slice-read-if3
+slice-read-if3 c =
+    let a = c .before .before .before .before .before .before .before .before .args in
+    omega (arith, its-words (a .h .now) (a .e .now) (sym (c .before .before .before .before .housed .ensures) ∙ not-false _ (c .before .before .before .if1 .left)))
+
+same-length-3 : tie.Need-same-length-3
+same-length-3 c = search needs
+
+returns-3 : tie.Need-returns-3
+returns-3 c =
     let a = c .before .before .before .before .before .before .before .before .before .args in
     let t = unlock-no (a .h .now) (a .e .now) (a .id) (a .who .now) (ownerless-no (a .h .now) (a .e .now) (sym (c .before .before .before .before .before .housed .ensures) ∙ not-false _ (c .before .before .before .before .if1 .left)) (omega arith) (omega arith)) in
     (t .0, (t .1, unwritten (a .h .now)))
@@ -48,11 +57,11 @@ slice-read-fits c =
 fits-requires : tie.Need-fits-requires
 fits-requires c κs = search needs
 
-same-length-3 : tie.Need-same-length-3
-same-length-3 c = search needs
+same-length-4 : tie.Need-same-length-4
+same-length-4 c = search needs
 
-returns-3 : tie.Need-returns-3
-returns-3 c =
+returns-4 : tie.Need-returns-4
+returns-4 c =
     let a = c .before .before .before .before .before .before .before .before .before .before .before .before .args in
     let t = unlock-no (a .h .now) (a .e .now) (a .id) (a .who .now) (crowded-no (a .h .now) (a .e .now) (sym (c .before .before .before .before .before .before .before .before .housed .ensures) ∙ not-false _ (c .before .before .before .before .before .before .before .if1 .left)) (sym (c .before .fits2 .ensures) ∙ not-true _ (c .if4 .taken))) in
     (t .0, (t .1, unwritten (a .h .now)))
@@ -62,83 +71,14 @@ slice-read-if5 c =
     let a = c .before .before .before .before .before .before .before .before .before .before .before .before .before .args in
     omega (arith, its-words (a .h .now) (a .e .now) (sym (c .before .before .before .before .before .before .before .before .before .housed .ensures) ∙ not-false _ (c .before .before .before .before .before .before .before .before .if1 .left)))
 
-same-length-4 : tie.Need-same-length-4
-same-length-4 c = search needs
-
-returns-4 : tie.Need-returns-4
-returns-4 c =
-    let a = c .before .before .before .before .before .before .before .before .before .before .before .before .before .before .args in
-    let s = held-yes (a .h .now) (a .e .now) (sym (c .before .before .before .before .before .before .before .before .before .before .housed .ensures) ∙ not-false _ (c .before .before .before .before .before .before .before .before .before .if1 .left)) (omega arith) (omega arith) (sym (c .before .before .before .fits2 .ensures) ∙ not-false _ (c .before .before .if4 .left)) in
-    let t = unlock-other (a .h .now) (a .e .now) s (a .id) (a .who .now) (omega arith) (c .if5 .taken) in
-    (t .0, (t .1, unwritten (a .h .now)))
-
-pass-requires : tie.Need-pass-requires
-pass-requires c κs = search needs
-
 same-length-5 : tie.Need-same-length-5
 same-length-5 c = search needs
 
 returns-5 : tie.Need-returns-5
 returns-5 c =
-    let a = c .before .before .before .before .before .before .before .before .before .before .before .before .before .before .before .before .before .before .before .args in
-    let u = c .before .before .pass in
-    let s = held-yes (a .h .now) (a .e .now) (sym (c .before .before .before .before .before .before .before .before .before .before .before .before .before .before .before .housed .ensures) ∙ not-false _ (c .before .before .before .before .before .before .before .before .before .before .before .before .before .before .if1 .left)) (omega arith) (omega arith) (sym (c .before .before .before .before .before .before .before .before .fits2 .ensures) ∙ not-false _ (c .before .before .before .before .before .before .before .if4 .left)) in
-    let t = unlock-passes (a .h .now) (a .e .now) s (a .id) (a .who .now) (omega arith) (omega arith) (omega arith) (u .result) (u .last .0) (u .last .1 .1 .0) (u .ensures .0, u .ensures .1 .0) in
-    rw (answered {z = u .result} (u .ok)) (t .0, (t .1, u .ensures .1 .1))
-
-same-length-6 : tie.Need-same-length-6
-same-length-6 c = search needs
-
-returns-6 : tie.Need-returns-6
-returns-6 c =
-    let a = c .before .before .before .before .before .before .before .before .args in
-    let t = unlock-lockless (a .h .now) (a .e .now) (a .id) (a .who .now) (omega arith) in
-    (t .0, (t .1, unwritten (a .h .now)))
-
-slice-read-if7 : tie.Need-slice-read-if7
-slice-read-if7 c =
-    let a = c .before .before .before .before .before .before .before .before .before .args in
-    omega (arith, its-words (a .h .now) (a .e .now) (sym (c .before .before .before .before .before .housed .ensures) ∙ not-false _ (c .before .before .before .before .if1 .left)))
-
-same-length-7 : tie.Need-same-length-7
-same-length-7 c = search needs
-
-returns-7 : tie.Need-returns-7
-returns-7 c =
-    let a = c .before .before .before .before .before .before .before .before .before .before .args in
-    let t = unlock-no (a .h .now) (a .e .now) (a .id) (a .who .now) (ownerless-no (a .h .now) (a .e .now) (sym (c .before .before .before .before .before .before .housed .ensures) ∙ not-false _ (c .before .before .before .before .before .if1 .left)) (omega arith) (omega arith)) in
-    (t .0, (t .1, unwritten (a .h .now)))
-
-slice-read-fits-2 : tie.Need-slice-read-fits-2
-slice-read-fits-2 c =
-    let a = c .before .before .before .before .before .before .before .before .before .before .before .args in
-    omega (arith, its-words (a .h .now) (a .e .now) (sym (c .before .before .before .before .before .before .before .housed .ensures) ∙ not-false _ (c .before .before .before .before .before .before .if1 .left)))
-
-fits-requires-2 : tie.Need-fits-requires-2
-fits-requires-2 c κs = search needs
-
-same-length-8 : tie.Need-same-length-8
-same-length-8 c = search needs
-
-returns-8 : tie.Need-returns-8
-returns-8 c =
-    let a = c .before .before .before .before .before .before .before .before .before .before .before .before .before .args in
-    let t = unlock-no (a .h .now) (a .e .now) (a .id) (a .who .now) (crowded-no (a .h .now) (a .e .now) (sym (c .before .before .before .before .before .before .before .before .before .housed .ensures) ∙ not-false _ (c .before .before .before .before .before .before .before .before .if1 .left)) (sym (c .before .fits3 .ensures) ∙ not-true _ (c .if8 .taken))) in
-    (t .0, (t .1, unwritten (a .h .now)))
-
-slice-read-if9 : tie.Need-slice-read-if9
-slice-read-if9 c =
     let a = c .before .before .before .before .before .before .before .before .before .before .before .before .before .before .args in
-    omega (arith, its-words (a .h .now) (a .e .now) (sym (c .before .before .before .before .before .before .before .before .before .before .housed .ensures) ∙ not-false _ (c .before .before .before .before .before .before .before .before .before .if1 .left)))
-
-same-length-9 : tie.Need-same-length-9
-same-length-9 c = search needs
-
-returns-9 : tie.Need-returns-9
-returns-9 c =
-    let a = c .before .before .before .before .before .before .before .before .before .before .before .before .before .before .before .args in
-    let s = held-yes (a .h .now) (a .e .now) (sym (c .before .before .before .before .before .before .before .before .before .before .before .housed .ensures) ∙ not-false _ (c .before .before .before .before .before .before .before .before .before .before .if1 .left)) (omega arith) (omega arith) (sym (c .before .before .before .fits3 .ensures) ∙ not-false _ (c .before .before .if8 .left)) in
-    let t = unlock-other (a .h .now) (a .e .now) s (a .id) (a .who .now) (omega arith) (c .if9 .taken) in
+    let s = held-yes (a .h .now) (a .e .now) (sym (c .before .before .before .before .before .before .before .before .before .before .housed .ensures) ∙ not-false _ (c .before .before .before .before .before .before .before .before .before .if1 .left)) (omega arith) (omega arith) (sym (c .before .before .before .fits2 .ensures) ∙ not-false _ (c .before .before .if4 .left)) in
+    let t = unlock-other (a .h .now) (a .e .now) s (a .id) (a .who .now) (omega arith) (c .if5 .taken) in
     (t .0, (t .1, unwritten (a .h .now)))
 
 sub-h : tie.Need-sub-h
@@ -149,15 +89,30 @@ slice-write-h c =
     let a = c .before .before .before .before .before .before .before .before .before .before .before .before .before .before .before .args in
     omega (arith, its-words (a .h .now) (a .e .now) (sym (c .before .before .before .before .before .before .before .before .before .before .before .housed .ensures) ∙ not-false _ (c .before .before .before .before .before .before .before .before .before .before .if1 .left)))
 
-same-length-10 : tie.Need-same-length-10
-same-length-10 c = search needs
+same-length-6 : tie.Need-same-length-6
+same-length-6 c = search needs
 
-returns-10 : tie.Need-returns-10
-returns-10 c =
+returns-6 : tie.Need-returns-6
+returns-6 c =
     let a = c .before .before .before .before .before .before .before .before .before .before .before .before .before .before .before .args in
-    let s = held-yes (a .h .now) (a .e .now) (sym (c .before .before .before .before .before .before .before .before .before .before .before .housed .ensures) ∙ not-false _ (c .before .before .before .before .before .before .before .before .before .before .if1 .left)) (omega arith) (omega arith) (sym (c .before .before .before .fits3 .ensures) ∙ not-false _ (c .before .before .if8 .left)) in
+    let z = sym (c .before .before .before .before .before .before .before .before .before .before .before .housed .ensures) ∙ not-false _ (c .before .before .before .before .before .before .before .before .before .before .if1 .left) in
+    let s = held-yes (a .h .now) (a .e .now) z (omega arith) (omega arith) (sym (c .before .before .before .before .fits2 .ensures) ∙ not-false _ (c .before .before .before .if4 .left)) in
     let t = unlock-nested (a .h .now) (a .e .now) s (a .id) (a .who .now) (omega arith) (omega arith) in
-    (t .0, (t .1, counts (a .h .now) (its-words (a .h .now) (a .e .now) (sym (c .before .before .before .before .before .before .before .before .before .before .before .housed .ensures) ∙ not-false _ (c .before .before .before .before .before .before .before .before .before .before .if1 .left))) _))
+    (t .0, (t .1, counts (a .h .now) (its-words (a .h .now) (a .e .now) z) _))
+
+pass-requires : tie.Need-pass-requires
+pass-requires c κs = search needs
+
+same-length-7 : tie.Need-same-length-7
+same-length-7 c = search needs
+
+returns-7 : tie.Need-returns-7
+returns-7 c =
+    let a = c .before .before .before .before .before .before .before .before .before .before .before .before .before .before .before .before .before .before .before .before .args in
+    let u = c .before .before .pass in
+    let s = held-yes (a .h .now) (a .e .now) (sym (c .before .before .before .before .before .before .before .before .before .before .before .before .before .before .before .before .housed .ensures) ∙ not-false _ (c .before .before .before .before .before .before .before .before .before .before .before .before .before .before .before .if1 .left)) (omega arith) (omega arith) (sym (c .before .before .before .before .before .before .before .before .before .fits2 .ensures) ∙ not-false _ (c .before .before .before .before .before .before .before .before .if4 .left)) in
+    let t = unlock-passes (a .h .now) (a .e .now) s (a .id) (a .who .now) (omega arith) (omega arith) (omega arith) (u .result) (u .last .0) (u .last .1 .1 .0) (u .ensures .0, u .ensures .1 .0) in
+    rw (answered {z = u .result} (u .ok)) (t .0, (t .1, u .ensures .1 .1))
 
 pub unlock-spec : {M : Type 1} → statement M
 unlock-spec =
@@ -167,32 +122,22 @@ unlock-spec =
     same-length
     returns
     slice-read-held
-    slice-read-if3
     same-length-2
     returns-2
-    slice-read-fits
-    fits-requires
+    slice-read-if3
     same-length-3
     returns-3
-    slice-read-if5
+    slice-read-fits
+    fits-requires
     same-length-4
     returns-4
-    pass-requires
+    slice-read-if5
     same-length-5
     returns-5
-    same-length-6
-    returns-6
-    slice-read-if7
-    same-length-7
-    returns-7
-    slice-read-fits-2
-    fits-requires-2
-    same-length-8
-    returns-8
-    slice-read-if9
-    same-length-9
-    returns-9
     sub-h
     slice-write-h
-    same-length-10
-    returns-10)
+    same-length-6
+    returns-6
+    pass-requires
+    same-length-7
+    returns-7)
