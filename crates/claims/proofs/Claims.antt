@@ -3,6 +3,7 @@ use mathlib.Core.Path.{_≡_, subst, ap, _∙_}
 use mathlib.Core.List.{List}
 use Prim.Native.Nat.{ℕ}
 use lib.IntN.{ℤ}
+use lib.ListN.{drop}
 use Rattle.store.specs.Store as store
 use Rattle.system.proofs.Theorems.{all}
 use Rattle.system.proofs.Library.{code-histories}
@@ -18,12 +19,23 @@ refused-too {S} P f h b c r h' b' e d =
     let a : (h' ≡ h) × (b' ≡ b) = subst (λ (x : store.Reply S). store.After P x h b h' b') e (d .after) in
     (d .code ∙ ap store.answer e, a .0, a .1)
 
+-- what is not the object's stays
+outside-too : {S : Type 0} (P : store.Place S) (f : S → store.Reply S) (h b : List ℕ) (r : ℤ) (h' b' : List ℕ) → store.Did P f h b r h' b'
+    → (drop (P .words) h' ≡ drop (P .words) h) × (drop (P .size h') b' ≡ drop (P .size h') b)
+outside-too {S} P f h b r h' b' d = go (store.reply P f h b) (d .after)
+  where
+    go : (x : store.Reply S) → store.After P x h b h' b' → (drop (P .words) h' ≡ drop (P .words) h) × (drop (P .size h') b' ≡ drop (P .size h') b)
+    go (store.refuse c) a = (ap (drop (P .words)) (a .0), ap (drop (P .size h')) (a .1))
+    go (store.accept s c) a = (a .beside, a .rest)
+
 pub claims : Claims
 claims =
     record {
       contracts = contracts;
       refused = λ L f h e r h' e' d. (d .kept, d .beside);
       refused-too = refused-too;
+      outside = λ L f h e r h' e' d. (d .beside, d .rest);
+      outside-too = outside-too;
       objects = objects;
       laws = all .determined .laws;
       nothing-else = all .determined .next;

@@ -3,7 +3,7 @@ use mathlib.Core.Path.{_≡_}
 use mathlib.Core.List.{List, _∷_}
 use Prim.Native.Nat.{ℕ, _≤_}
 use lib.IntN.{ℤ, negsuc}
-use lib.ListN.{length, drop}
+use lib.ListN.{drop, getD}
 use Rattle.kind.specs.Object as kind
 use Rattle.store.specs.Store as store
 use Rattle.wait_queue.specs.Post.{Refused}
@@ -36,6 +36,11 @@ pub record Claims : Type 1 where
   pub refused-too : {S : Type 0} (P : store.Place S) (f : S → store.Reply S) (h b : List ℕ) (c : ℤ) (r : ℤ) (h' b' : List ℕ)
       → store.reply P f h b ≡ store.refuse c
       → store.Did P f h b r h' b' → (r ≡ c) × (h' ≡ h) × (b' ≡ b)
+  -- whatever is answered
+  pub outside : {N : Type 0} (L : kind.Layout N) (f : N → List ℕ → kind.Out N) (h e : List ℕ) (r : ℤ) (h' e' : List ℕ) → kind.Does L f h e r h' e'
+      → (drop (L .words) h' ≡ drop (L .words) h) × (drop (getD h' (L .len) 0) e' ≡ drop (getD h' (L .len) 0) e)
+  pub outside-too : {S : Type 0} (P : store.Place S) (f : S → store.Reply S) (h b : List ℕ) (r : ℤ) (h' b' : List ℕ) → store.Did P f h b r h' b'
+      → (drop (P .words) h' ≡ drop (P .words) h) × (drop (P .size h') b' ≡ drop (P .size h') b)
   -- 4 to 6, 9, 12 to 18: objects alone, after any calls
   pub objects : Objects
   -- ---- docs/THEOREMS.md, and 3 and 7 of README.md
