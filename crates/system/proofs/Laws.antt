@@ -9,7 +9,8 @@ use Rattle.system.specs.Sum.{Member}
 use Rattle.system.specs.Rules.{Fine}
 use Rattle.system.specs.Laws.{OfObjects, LawsAt, Laws}
 use Rattle.system.proofs.Steps.{always}
-use Rattle.system.proofs.ThreadLaws.{threads, callers, pairs}
+use Rattle.system.proofs.ThreadLaws.{threads}
+use Rattle.system.proofs.CallerLaws.{callers, pairs}
 use Rattle.system.proofs.Effects as effects
 use Rattle.system.proofs.Sheets.{Sheet, whole-fits}
 

@@ -1,9 +1,10 @@
 pub mod Times
+pub mod Places
+pub mod ThreadLaws
 pub mod Calls
 pub mod Wakes
-pub mod Places
 pub mod Effects
-pub mod ThreadLaws
+pub mod CallerLaws
 pub mod Quiet
 pub mod Steps
 pub mod Sum

@@ -6,7 +6,7 @@ use lib.IntN.{ℤ}
 use Rattle.kind.specs.Kind.{Kind}
 use Rattle.system.specs.System.{State, absent, running, ready, waiting, object, Sys, invoke, done, denied, Reply, step}
 use Rattle.system.specs.Rules.{Fine}
-use Rattle.system.proofs.ThreadLaws.{callers}
+use Rattle.system.proofs.CallerLaws.{callers}
 
 pub refused : {A : Type 0} {x y : ℤ} → done x ≡ denied y → A
 refused h = absurd (let z : _≡_ {A = ℕ} 0 1 = cc in omega arith)
