@@ -35,7 +35,8 @@ none-right o (t ∷ q) e = clash e
 
 -- whether a lock is sound and right hangs on the verdict d on another's mutex
 module _ (v : ℕ → Unit {0}) (q : List ℕ) (w : ℕ) where
-  locks-sound : (o : Owner) (c : ℕ) (d : Verdict Mutex (Unit {0})) → formed (mk o c) (any q) ≡ true → Sound mutex-kind q d → Sound mutex-kind q (locks (mk o c) w d)
+  locks-sound : (o : Owner) (c : ℕ) (d : Verdict Mutex (Unit {0})) → formed (mk o c) (any q) ≡ true → Sound mutex-kind q d
+      → Sound mutex-kind q (locks (mk o c) w d)
   locks-sound nobody c d f s = refl
   locks-sound (thread i) c d f s = go (eqb i w) (ltb c maxCount)
     where
@@ -73,7 +74,8 @@ module _ (v : ℕ → Unit {0}) (q : List ℕ) (w : ℕ) where
       go true false z = passes-sound q
       go false b z = tt
 
-  unlocks-right : (k : Call) → Distinct q → Owed k ok → (o : Owner) (c : ℕ) (d : Verdict Mutex (Unit {0})) → Right mutex-kind v q w k d → Right mutex-kind v q w k (unlocks (mk o c) w q d)
+  unlocks-right : (k : Call) → Distinct q → Owed k ok → (o : Owner) (c : ℕ) (d : Verdict Mutex (Unit {0})) → Right mutex-kind v q w k d
+      → Right mutex-kind v q w k (unlocks (mk o c) w q d)
   unlocks-right k a e nobody c d s = tt
   unlocks-right k a e (thread i) c d s = go (eqb i w) (ltb 1 c)
     where

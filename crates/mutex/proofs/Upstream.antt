@@ -378,12 +378,15 @@ unlocks i (thread j) c q v = go (eqb j i) refl
     go false y = unlocks-other i j c q v (eqb-false j i y)
 
 -- lock_blocking of another's, with a place to wait
-module _ (i p j c : ℕ) (q : List ℕ) (small : i < 4294967296) (valid : p < maxPriority) (v : Inv (mk (thread j) c) q) (n : j ≡ i → ⊥) (room : length q < maxWaiters) (absent : holds i q ≡ false) where
+module _ (i p j c : ℕ) (q : List ℕ) (small : i < 4294967296) (valid : p < maxPriority) (v : Inv (mk (thread j) c) q) (n : j ≡ i → ⊥)
+    (room : length q < maxWaiters) (absent : holds i q ≡ false) where
   -- the thread joins
-  pub lock-joins : lockOut i p running (mk (thread j) c) q ≡ record { num = mk (thread j) c; turn = record { code = waits; queue = joined (entry p i) q; woken = [] } }
+  pub lock-joins : lockOut i p running (mk (thread j) c) q
+      ≡ record { num = mk (thread j) c; turn = record { code = waits; queue = joined (entry p i) q; woken = [] } }
   lock-joins = rw (inv-formed (thread j) c q v, lt-ltb p maxPriority valid, ne-eqb j i n, ident-entry p i small, absent, lt-ltb (length q) maxWaiters room)
 
-  blocks : LockBlocking (mk (thread j) c) q (lockOut i p running (mk (thread j) c) q .turn .code) (lockOut i p running (mk (thread j) c) q .num) (lockOut i p running (mk (thread j) c) q .turn .queue)
+  blocks : LockBlocking (mk (thread j) c) q (lockOut i p running (mk (thread j) c) q .turn .code) (lockOut i p running (mk (thread j) c) q .num)
+      (lockOut i p running (mk (thread j) c) q .turn .queue)
   blocks =
       let t = lock-joins in
       record {
@@ -395,7 +398,8 @@ module _ (i p j c : ℕ) (q : List ℕ) (small : i < 4294967296) (valid : p < ma
       }
 
 -- what is there, or its own, the caller gets as without waiting
-lock-same : (i p : ℕ) (o : Owner) (c : ℕ) (q : List ℕ) → p < maxPriority → (o ≡ nobody) ⊎ (o ≡ thread i) → lockOut i p running (mk o c) q ≡ tryLockOut i (mk o c) q
+lock-same : (i p : ℕ) (o : Owner) (c : ℕ) (q : List ℕ) → p < maxPriority → (o ≡ nobody) ⊎ (o ≡ thread i)
+    → lockOut i p running (mk o c) q ≡ tryLockOut i (mk o c) q
 lock-same i p o c q k (inl z) = rw (z, lt-ltb p maxPriority k)
 lock-same i p o c q k (inr z) = go (ltb c maxCount) refl
   where
@@ -418,19 +422,22 @@ module _ (h e : List ℕ) (r : ℤ) (h' e' : List ℕ) (m : Housed layout h e) (
   mutex-try-lock i l d =
       shown layout (tryLockOut i) (TryLock i (layout .num h) (waiting e (getD h 3 0))) h e r h' e' d m (tries i own (getD h 2 0) (waiting e (getD h 3 0)) v l)
 
-  pub mutex-lock-blocking : (i p : ℕ) → i < 4294967296 → p < maxPriority → Another i own → length (waiting e (getD h 3 0)) < maxWaiters → holds i (waiting e (getD h 3 0)) ≡ false
+  pub mutex-lock-blocking : (i p : ℕ) → i < 4294967296 → p < maxPriority → Another i own → length (waiting e (getD h 3 0)) < maxWaiters
+      → holds i (waiting e (getD h 3 0)) ≡ false
       → Does layout (lockOut i p running) h e r h' e' → LockBlocking (layout .num h) (waiting e (getD h 3 0)) r (layout .num h') (waiting e' (getD h' 3 0))
   mutex-lock-blocking i p small valid a room absent d =
       shown layout (lockOut i p running) (LockBlocking (layout .num h) (waiting e (getD h 3 0))) h e r h' e' d m
       (rw (a .is) (blocks i p (a .who) (getD h 2 0) (waiting e (getD h 3 0)) small valid (rw (a .is) at v) (a .other) room absent))
 
   -- upstream demands another's; what is free or its own, the thread gets as by try_lock
-  pub mutex-lock-takes : (i p : ℕ) → p < maxPriority → (own ≡ nobody) ⊎ (own ≡ thread i) → Does layout (lockOut i p running) h e r h' e' → Does layout (tryLockOut i) h e r h' e'
+  pub mutex-lock-takes : (i p : ℕ) → p < maxPriority → (own ≡ nobody) ⊎ (own ≡ thread i) → Does layout (lockOut i p running) h e r h' e'
+      → Does layout (tryLockOut i) h e r h' e'
   mutex-lock-takes i p k o d =
       alike layout (lockOut i p running) (tryLockOut i) h e r h' e'
       (is-on layout (lockOut i p running) h e m ∙ lock-same i p own (getD h 2 0) (waiting e (getD h 3 0)) k o ∙ sym (is-on layout (tryLockOut i) h e m)) d
 
-  pub mutex-unlock : (i : ℕ) → Does layout (unlockOut i) h e r h' e' → Unlock i (layout .num h) (waiting e (getD h 3 0)) r (layout .num h') (waiting e' (getD h' 3 0))
+  pub mutex-unlock : (i : ℕ) → Does layout (unlockOut i) h e r h' e'
+      → Unlock i (layout .num h) (waiting e (getD h 3 0)) r (layout .num h') (waiting e' (getD h' 3 0))
   mutex-unlock i d =
       shown layout (unlockOut i) (Unlock i (layout .num h) (waiting e (getD h 3 0))) h e r h' e' d m (unlocks i own (getD h 2 0) (waiting e (getD h 3 0)) v)
 
@@ -453,7 +460,8 @@ module _ (h e : List ℕ) (r : ℤ) (h' e' : List ℕ) (m : Housed layout h e) (
   pub overflow-refuses : (i : ℕ) → own ≡ thread i → getD h 2 0 ≡ maxCount → Does layout (tryLockOut i) h e r h' e' → (r ≡ eoverflow) × (h' ≡ h) × (e' ≡ e)
   overflow-refuses i o k d =
       let f = inv-formed (thread i) (getD h 2 0) (waiting e (getD h 3 0)) (rw o at v) in
-      let y : on layout (tryLockOut i) h e .turn .code ≡ eoverflow = rw (is-on layout (tryLockOut i) h e m, o, no-lock i (getD h 2 0) (waiting e (getD h 3 0)) f k) in
+      let y : on layout (tryLockOut i) h e .turn .code
+          ≡ eoverflow = rw (is-on layout (tryLockOut i) h e m, o, no-lock i (getD h 2 0) (waiting e (getD h 3 0)) f k) in
       unchanged layout (tryLockOut i) h e r h' e' 138 d y
 
 -- what upstream demands is refused here: a header that is not as it should be
@@ -505,7 +513,8 @@ unlocks-all : (i k : ℕ) → run mutex-kind plain (alone i (suc k)) (times (suc
 unlocks-all i zero = ap left (now-free i 1 refl)
 unlocks-all i (suc k) =
     let z : suc (suc k) - 1 ≡ suc k = omega arith in
-    ap (λ (o : Out Mutex). run mutex-kind plain (left o) (times (suc k) (calls i unlock))) (one-less i (suc (suc k)) [] (lt-ltb 0 (suc (suc k)) (omega arith)) (omega arith))
+    ap (λ (o : Out Mutex). run mutex-kind plain (left o) (times (suc k) (calls i unlock)))
+        (one-less i (suc (suc k)) [] (lt-ltb 0 (suc (suc k)) (omega arith)) (omega arith))
     ∙ ap (λ (c : ℕ). run mutex-kind plain (alone i c) (times (suc k) (calls i unlock))) z
     ∙ unlocks-all i k
 

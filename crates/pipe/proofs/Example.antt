@@ -87,18 +87,22 @@ reset-over = refl
 abbrev written : List ℕ
 written = 1 ∷ 2 ∷ 3 ∷ 9 ∷ []
 
-started : Started layout (may 4 (9 ∷ 9 ∷ 9 ∷ 9 ∷ [])) (new 4 (9 ∷ 9 ∷ 9 ∷ 9 ∷ [])) (7 ∷ 7 ∷ 7 ∷ 7 ∷ []) (9 ∷ 9 ∷ 9 ∷ 9 ∷ []) ok (4 ∷ 0 ∷ 0 ∷ 1 ∷ []) (9 ∷ 9 ∷ 9 ∷ 9 ∷ [])
+started : Started layout (may 4 (9 ∷ 9 ∷ 9 ∷ 9 ∷ [])) (new 4 (9 ∷ 9 ∷ 9 ∷ 9 ∷ [])) (7 ∷ 7 ∷ 7 ∷ 7 ∷ []) (9 ∷ 9 ∷ 9 ∷ 9 ∷ []) ok (4 ∷ 0 ∷ 0 ∷ 1 ∷ [])
+    (9 ∷ 9 ∷ 9 ∷ 9 ∷ [])
 unfolding turn
-started = record { code = refl; made = λ e. record { formed = refl; object = refl; beside = refl; rest = refl; long = (refl, refl) }; kept = λ n e. absurd (let y : _≡_ {A = ℕ} 0 1 = cc in omega arith) }
+started = record { code = refl; made = λ e. record { formed = refl; object = refl; beside = refl; rest = refl; long = (refl, refl) }; kept = λ n e. absurd
+    (let y : _≡_ {A = ℕ} 0 1 = cc in omega arith) }
 
 -- the last stands first; the caller's place for the read has room for two
 abbrev after-call : Call → ℤ → List ℕ → Step Call
 after-call k a o = record { call = k; answer = a; out = o }
 
 abbrev steps : List (Step Call)
-steps = after-call (writes (4 ∷ [])) ecanceled [] ∷ after-call resets ok [] ∷ after-call (reads 1) (pos 1) (1 ∷ 8 ∷ []) ∷ after-call (writes (1 ∷ 2 ∷ 3 ∷ [])) (pos 3) [] ∷ []
+steps = after-call (writes (4 ∷ [])) ecanceled [] ∷ after-call resets ok [] ∷ after-call (reads 1) (pos 1) (1 ∷ 8 ∷ []) ∷ after-call
+    (writes (1 ∷ 2 ∷ 3 ∷ [])) (pos 3) [] ∷ []
 
-becomes : {h b h' b' : List ℕ} {p : Pipe} → layout .formed h' b' ≡ true → object h' b' ≡ p → drop 4 h' ≡ drop 4 h → drop (getD h' 0 0) b' ≡ drop (getD h' 0 0) b → (length h' ≡ length h) × (length b' ≡ length b) → Becomes layout p h b h' b'
+becomes : {h b h' b' : List ℕ} {p : Pipe} → layout .formed h' b' ≡ true → object h' b' ≡ p → drop 4 h' ≡ drop 4 h
+    → drop (getD h' 0 0) b' ≡ drop (getD h' 0 0) b → (length h' ≡ length h) × (length b' ≡ length b) → Becomes layout p h b h' b'
 becomes f o w r l = record { formed = f; object = o; beside = w; rest = r; long = l }
 
 ran : Made layout does gives (4 ∷ 0 ∷ 0 ∷ 1 ∷ []) (9 ∷ 9 ∷ 9 ∷ 9 ∷ []) steps (4 ∷ 0 ∷ 0 ∷ 3 ∷ []) written
@@ -107,8 +111,10 @@ ran =
     made {k = writes (4 ∷ [])} {r = ecanceled} {h = 4 ∷ 0 ∷ 0 ∷ 3 ∷ []} {b = written} [] []
     (made {k = resets} {r = ok} {h = 4 ∷ 1 ∷ 2 ∷ 1 ∷ []} {b = written} [] []
     (made {k = reads 1} {r = pos 1} {h = 4 ∷ 0 ∷ 3 ∷ 1 ∷ []} {b = written} (7 ∷ 8 ∷ []) (1 ∷ 8 ∷ [])
-    (made {k = writes (1 ∷ 2 ∷ 3 ∷ [])} {r = pos 3} {h = 4 ∷ 0 ∷ 0 ∷ 1 ∷ []} {b = 9 ∷ 9 ∷ 9 ∷ 9 ∷ []} [] [] begun (record { code = refl; after = becomes refl refl refl refl (refl, refl) }) refl)
-    (record { code = refl; after = becomes refl refl refl refl (refl, refl) }) refl) (record { code = refl; after = becomes refl refl refl refl (refl, refl) }) refl) (record { code = refl; after = (refl, refl) }) refl
+    (made {k = writes (1 ∷ 2 ∷ 3 ∷ [])} {r = pos 3} {h = 4 ∷ 0 ∷ 0 ∷ 1 ∷ []} {b = 9 ∷ 9 ∷ 9 ∷ 9 ∷ []} [] [] begun
+        (record { code = refl; after = becomes refl refl refl refl (refl, refl) }) refl)
+    (record { code = refl; after = becomes refl refl refl refl (refl, refl) }) refl)
+        (record { code = refl; after = becomes refl refl refl refl (refl, refl) }) refl) (record { code = refl; after = (refl, refl) }) refl
 
 booked : (got steps ≡ 1 ∷ []) × (line steps ≡ 1 ∷ []) × (open-by steps ≡ true) × (resetting-by steps ≡ true)
 booked = (refl, refl, refl, refl)

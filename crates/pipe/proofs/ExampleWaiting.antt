@@ -42,11 +42,13 @@ one-wrote : (first .books .got ≡ 1 ∷ 2 ∷ 3 ∷ 4 ∷ []) × (first .pipe .
 unfolding turn wrap
 one-wrote = (refl, refl, refl, refl)
 
-both-wrote : (second .books .got ≡ 1 ∷ 2 ∷ 3 ∷ 4 ∷ 5 ∷ []) × (second .pipe .ring .held ≡ 6 ∷ []) × (second .writers ≡ []) × (second .books .called ≡ second .books .went)
+both-wrote : (second .books .got ≡ 1 ∷ 2 ∷ 3 ∷ 4 ∷ 5 ∷ []) × (second .pipe .ring .held ≡ 6 ∷ []) × (second .writers ≡ [])
+    × (second .books .called ≡ second .books .went)
 unfolding turn wrap
 both-wrote = (refl, refl, refl, refl)
 
-answers : (readDecision 4 4 1 4 true ≡ accept (record { actual = 4; used = 0 }) wakes) × (writeDecision 0 4 1 1 false ≡ accept (record { actual = 1; used = 1 }) goes)
+answers : (readDecision 4 4 1 4 true ≡ accept (record { actual = 4; used = 0 }) wakes)
+    × (writeDecision 0 4 1 1 false ≡ accept (record { actual = 1; used = 1 }) goes)
     × (readDecision 1 4 1 1 true ≡ accept (record { actual = 1; used = 0 }) wakes)
 answers = (refl, refl, refl)
 
@@ -72,7 +74,8 @@ readers-fed : after (read 1 ∷ read 2 ∷ write (1 ∷ 2 ∷ 3 ∷ 4 ∷ []) �
 unfolding turn wrap
 readers-fed = refl
 
-readers : (after (read 1 ∷ read 2 ∷ write (1 ∷ 2 ∷ 3 ∷ 4 ∷ []) ∷ []) .books .got ≡ 1 ∷ []) × (after (read 1 ∷ read 2 ∷ write (1 ∷ 2 ∷ 3 ∷ 4 ∷ []) ∷ write (2 ∷ 3 ∷ 4 ∷ []) ∷ []) .books .got ≡ 1 ∷ 2 ∷ 3 ∷ [])
+readers : (after (read 1 ∷ read 2 ∷ write (1 ∷ 2 ∷ 3 ∷ 4 ∷ []) ∷ []) .books .got ≡ 1 ∷ [])
+    × (after (read 1 ∷ read 2 ∷ write (1 ∷ 2 ∷ 3 ∷ 4 ∷ []) ∷ write (2 ∷ 3 ∷ 4 ∷ []) ∷ []) .books .got ≡ 1 ∷ 2 ∷ 3 ∷ [])
     × (after (read 1 ∷ read 2 ∷ write (1 ∷ 2 ∷ 3 ∷ 4 ∷ []) ∷ write (2 ∷ 3 ∷ 4 ∷ []) ∷ write (4 ∷ []) ∷ []) .pipe .ring .held ≡ 4 ∷ [])
 unfolding turn wrap
 readers = (refl, refl, refl)
@@ -83,11 +86,13 @@ held-first = refl
 
 -- ---- flags come before who waits, and numbers that no pipe has before flags
 
-flags-first : (writeDecision 0 4 3 1 true ≡ refuse ecanceled) × (readDecision 0 4 3 1 true ≡ refuse ecanceled) × (writeDecision 2 4 0 1 true ≡ refuse epipe) × (readDecision 0 4 0 1 true ≡ refuse epipe)
+flags-first : (writeDecision 0 4 3 1 true ≡ refuse ecanceled) × (readDecision 0 4 3 1 true ≡ refuse ecanceled)
+    × (writeDecision 2 4 0 1 true ≡ refuse epipe) × (readDecision 0 4 0 1 true ≡ refuse epipe)
     × (readDecision 2 4 0 1 true ≡ accept (record { actual = 1; used = 1 }) wakes) × (readDecision 0 4 1 1 true ≡ accept (record { actual = 0; used = 0 })
     pends) × (writeDecision 5 4 3 1 true ≡ refuse einval)
 flags-first = (refl, refl, refl, refl, refl, refl, refl)
 
-reset-woke : (ends (after full) (resets ∷ []) .writers ≡ []) × (ends (after full) (closes ∷ read 1 ∷ []) .books .got ≡ 1 ∷ []) × (ends (after full) (closes ∷ []) .books .called ≡ (1 ∷ 2 ∷ 3 ∷ 4 ∷ []) ∷ [])
+reset-woke : (ends (after full) (resets ∷ []) .writers ≡ []) × (ends (after full) (closes ∷ read 1 ∷ []) .books .got ≡ 1 ∷ [])
+    × (ends (after full) (closes ∷ []) .books .called ≡ (1 ∷ 2 ∷ 3 ∷ 4 ∷ []) ∷ [])
 unfolding turn wrap
 reset-woke = (refl, refl, refl)

@@ -39,7 +39,8 @@ refuses k {h} {b} {r} {h'} {b'} f d = let a = d .after in (d .code ∙ rw f refl
 
 -- ---- init
 
-pub pipe-init : (n : ℕ) {h b : List ℕ} {r : ℤ} {h' : List ℕ} → 4 ≤ length h → n ≤ length b → Started layout (may n b) (new n b) h b r h' b → Init n r (object h' b)
+pub pipe-init : (n : ℕ) {h b : List ℕ} {r : ℤ} {h' : List ℕ} → 4 ≤ length h → n ≤ length b → Started layout (may n b) (new n b) h b r h' b
+    → Init n r (object h' b)
 pipe-init n {h} {b} {r} {h'} w room s =
     record {
       inv = λ e. inv h' b (s .made e .formed);
@@ -63,13 +64,16 @@ module _ (l : List ℕ) (p : Pipe) where
   abbrev q : ℕ → Pipe
   q k = holding (append (take k l) (p .ring)) p
 
-  wrote : (v : Verdict) → Within (length l) (size p - used p) v → (p .opened ≡ false → Err (answer (done q v))) → (p .resetting ≡ true → Err (answer (done q v)))
+  wrote : (v : Verdict) → Within (length l) (size p - used p) v → (p .opened ≡ false → Err (answer (done q v)))
+      → (p .resetting ≡ true → Err (answer (done q v)))
       → Inv (left (done q v) p) → WriteCheck (length l) p (answer (done q v)) (left (done q v) p)
   wrote (never (pos c)) w o r i = absurd w
   wrote (never (negsuc c)) w o r i =
-      record { inv = i; sized = refl; closed = o; resetting = r; some = λ k e. absurd (no-number e); few = λ k e. absurd (no-number e); more = λ k e. absurd (no-number e); under = λ k e. absurd (no-number e); kept = λ e. refl }
+      record { inv = i; sized = refl; closed = o; resetting = r; some = λ k e. absurd (no-number e); few = λ k e. absurd
+          (no-number e); more = λ k e. absurd (no-number e); under = λ k e. absurd (no-number e); kept = λ e. refl }
   wrote later w o r i =
-      record { inv = i; sized = refl; closed = o; resetting = r; some = λ k e. absurd (no-number e); few = λ k e. absurd (no-number e); more = λ k e. absurd (no-number e); under = λ k e. absurd (no-number e); kept = λ e. refl }
+      record { inv = i; sized = refl; closed = o; resetting = r; some = λ k e. absurd (no-number e); few = λ k e. absurd
+          (no-number e); more = λ k e. absurd (no-number e); under = λ k e. absurd (no-number e); kept = λ e. refl }
   wrote (move n) w o r i =
       let m = length-append (p .ring .held) (take n l) in
       let t = length-take n l in
@@ -99,12 +103,15 @@ module _ (n : ℕ) (p : Pipe) where
   abbrev g : ℕ → Pipe
   g k = holding (leave k (p .ring)) p
 
-  took : (v : Verdict) → Within n (used p) v → (p .resetting ≡ true → Err (answer (done g v))) → Inv (left (done g v) p) → ReadCheck n p (answer (done g v)) (left (done g v) p)
+  took : (v : Verdict) → Within n (used p) v → (p .resetting ≡ true → Err (answer (done g v))) → Inv (left (done g v) p)
+      → ReadCheck n p (answer (done g v)) (left (done g v) p)
   took (never (pos c)) w r i = absurd w
   took (never (negsuc c)) w r i =
-      record { inv = i; sized = refl; resetting = r; some = λ k e. absurd (no-number e); few = λ k e. absurd (no-number e); fewer = λ k e. absurd (no-number e); kept = λ e. refl }
+      record { inv = i; sized = refl; resetting = r; some = λ k e. absurd (no-number e); few = λ k e. absurd (no-number e); fewer = λ k e. absurd
+          (no-number e); kept = λ e. refl }
   took later w r i =
-      record { inv = i; sized = refl; resetting = r; some = λ k e. absurd (no-number e); few = λ k e. absurd (no-number e); fewer = λ k e. absurd (no-number e); kept = λ e. refl }
+      record { inv = i; sized = refl; resetting = r; some = λ k e. absurd (no-number e); few = λ k e. absurd (no-number e); fewer = λ k e. absurd
+          (no-number e); kept = λ e. refl }
   took (move m) w r i =
       let d = length-drop m (p .ring .held) in
       record {
@@ -126,7 +133,8 @@ module _ (h b : List ℕ) (f : formed h b ≡ true) where
   -- the pipe after a call of ours, and the answer
   module _ (k : Call) {r : ℤ} {h' b' : List ℕ} (d : Did layout (does k) h b r h' b') where
     -- what holds of the definition's pipe and answer holds of the memory
-    meets : (P : ℤ → Pipe → Type 0) → (Inv (left (does k (object h b)) (object h b)) → P (answer (does k (object h b))) (left (does k (object h b)) (object h b))) → P r (object h' b')
+    meets : (P : ℤ → Pipe → Type 0)
+        → (Inv (left (does k (object h b)) (object h b)) → P (answer (does k (object h b))) (left (does k (object h b)) (object h b))) → P r (object h' b')
     meets P x =
         let s = after layout (does k) h b f d in
         let i = subst Inv (s .1) (inv h' b' (s .0)) in
@@ -176,7 +184,8 @@ module _ (h b : List ℕ) (f : formed h b ≡ true) where
   pub pipe-full : {r : ℤ} → r ≡ looks layout isFull h b → IsFull (object h b) r
   pipe-full d = d ∙ looks-is layout h b isFull f ∙ go (object h b .ring .spare) (spare-is h b (good .ring)) (held-is h b (good .ring))
     where
-      go : (l : List ℕ) → length l ≡ getD h 0 0 - getD h 2 0 → used (object h b) ≡ getD h 2 0 → cond (any l) (pos 0) (pos 1) ≡ flag (eqb (used (object h b)) (size (object h b)))
+      go : (l : List ℕ) → length l ≡ getD h 0 0 - getD h 2 0 → used (object h b) ≡ getD h 2 0
+          → cond (any l) (pos 0) (pos 1) ≡ flag (eqb (used (object h b)) (size (object h b)))
       go [] e u = rw (eq-eqb (used (object h b)) (getD h 0 0) (omega (arith, good .ring .size)))
       go (x ∷ l) e u = rw (ne-eqb (used (object h b)) (getD h 0 0) (λ z. omega arith))
 
@@ -215,7 +224,8 @@ module _ (u s f n : ℕ) (w : Bool) {a c : ℕ} {r : ℤ} {a' c' : ℕ} where
 -- ---- lemmas
 
 -- lemma_invariant_inductive ends in `ensures true`: the invariant holds after any sequence of calls of a new pipe
-pub invariant-inductive : (n : ℕ) {h b h₀ b₀ : List ℕ} → Started layout (may n b) (new n b) h b ok h₀ b₀ → {ss : List (Step Call)} {h' b' : List ℕ} → Made layout does gives h₀ b₀ ss h' b'
+pub invariant-inductive : (n : ℕ) {h b h₀ b₀ : List ℕ} → Started layout (may n b) (new n b) h b ok h₀ b₀ → {ss : List (Step Call)} {h' b' : List ℕ}
+    → Made layout does gives h₀ b₀ ss h' b'
     → Inv (object h' b')
 invariant-inductive n s {h' = h'} {b' = b'} x = inv h' b' (from-init n s x .0)
 
@@ -227,7 +237,8 @@ write-read-roundtrip u s n some k fit =
     record {
       back = z;
       write = write-is u s 1 n false (is-proper u s 1 some (omega arith) (omega arith)) (write-moves u s 1 n refl k (omega arith) ∙ ap move x);
-      read = read-is (u + n) s 1 n false (is-proper (u + n) s 1 some fit (omega arith)) (read-moves (u + n) s 1 n (omega arith) k (omega arith) ∙ ap move y) ∙ ap (λ (j : ℕ). accept (record { actual = n; used = j }) goes) z;
+      read = read-is (u + n) s 1 n false (is-proper (u + n) s 1 some fit (omega arith))
+          (read-moves (u + n) s 1 n (omega arith) k (omega arith) ∙ ap move y) ∙ ap (λ (j : ℕ). accept (record { actual = n; used = j }) goes) z;
     }
 
 pub reset-empties : (p : Pipe) → ResetEmpties p

@@ -113,7 +113,8 @@ module _ {K : Kind} (law : Lawful K) (s : Sys K) (b : Start s) where
   abbrev noteOf : List (Op K) → Op K → ℕ → List (Note K)
   noteOf past x o = notes.notesOf (run step s) o past x
 
-  still : (past : List (Op K)) (o : ℕ) (l : List (Note K)) → after s past .slot o ≡ ledger l → (x : Op K) → OnThread x → step (after s past) x .0 .slot o ≡ ledger l
+  still : (past : List (Op K)) (o : ℕ) (l : List (Note K)) → after s past .slot o ≡ ledger l → (x : Op K) → OnThread x
+      → step (after s past) x .0 .slot o ≡ ledger l
   still past o l h x t = ap (λ (f : ℕ → Slot (K .Num)). f o) (quiet (after s past) x t .slots) ∙ h
 
   next : (past : List (Op K)) (o : ℕ) (l : List (Note K)) → after s past .slot o ≡ ledger l → (x : Op K)

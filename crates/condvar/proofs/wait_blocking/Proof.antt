@@ -15,7 +15,10 @@ same-length : tie.Need-same-length
 same-length c = search needs
 
 returns : tie.Need-returns
-returns c = let a = c .before .before .before .before .before .before .before .args in let d = c .before .release-decide in let z = negative (d .result) (rw (answered {z = d .result} (d .ok)) at (c .if1 .taken)) in rw (answered {z = d .result} (d .ok), z) (wait-mutex (a .id) (a .priority) (a .state) (a .h .now) (a .e .now) (a .mutex-h .now) (a .mutex-e .now) (a .who .now) (mag (d .result)) (sym (d .ensures) ∙ z))
+returns c = let a = c .before .before .before .before .before .before .before .args in let d = c .before .release-decide in let z = negative (d .result)
+    (rw (answered {z = d .result} (d .ok)) at (c .if1 .taken)) in rw (answered {z = d .result} (d .ok), z)
+    (wait-mutex (a .id) (a .priority) (a .state) (a .h .now) (a .e .now) (a .mutex-h .now) (a .mutex-e .now) (a .who .now) (mag (d .result))
+    (sym (d .ensures) ∙ z))
 
 same-length-2 : tie.Need-same-length-2
 same-length-2 c = search needs

@@ -34,7 +34,9 @@ returns-2 : tie.Need-returns-2
 returns-2 c =
     let a = c .before .before .before .before .before .before .before .before .before .args in
     let h = sym (c .before .has .ensures) ∙ c .if2 .taken in
-    enter-twice (a .len .now) (a .e .now) (a .id) (a .priority) (sym (c .before .before .before .before .before .fits2 .ensures) ∙ not-false _ (c .before .before .before .before .if1 .left)) (omega arith) (rw (c .before .before .before .wide .ensures) at h)
+    enter-twice (a .len .now) (a .e .now) (a .id) (a .priority)
+        (sym (c .before .before .before .before .before .fits2 .ensures) ∙ not-false _ (c .before .before .before .before .if1 .left)) (omega arith)
+        (rw (c .before .before .before .wide .ensures) at h)
 
 limit-requires : tie.Need-limit-requires
 limit-requires c κs = search needs
@@ -46,18 +48,25 @@ returns-3 : tie.Need-returns-3
 returns-3 c =
     let a = c .before .before .before .before .before .before .before .before .before .before .before .args in
     let h = sym (c .before .before .before .has .ensures) ∙ c .before .before .if2 .left in
-    enter-full (a .len .now) (a .e .now) (a .id) (a .priority) (sym (c .before .before .before .before .before .before .before .fits2 .ensures) ∙ not-false _ (c .before .before .before .before .before .before .if1 .left)) (omega arith) (rw (c .before .before .before .before .before .wide .ensures) at h) (sym (c .before .before .before .before .before .wide .ensures) ∙ c .if3 .taken ∙ c .before .limit .ensures)
+    enter-full (a .len .now) (a .e .now) (a .id) (a .priority)
+        (sym (c .before .before .before .before .before .before .before .fits2 .ensures) ∙ not-false _
+        (c .before .before .before .before .before .before .if1 .left)) (omega arith) (rw (c .before .before .before .before .before .wide .ensures) at h)
+        (sym (c .before .before .before .before .before .wide .ensures) ∙ c .if3 .taken ∙ c .before .limit .ensures)
 
 put-requires : tie.Need-put-requires
 put-requires c κs =
     let a = c .before .before .before .before .before .before .before .before .before .before .before .before .args in
-    let g = is-roomy (a .len .now) (a .e .now) (sym (c .before .before .before .before .before .before .before .before .fits2 .ensures) ∙ not-false _ (c .before .before .before .before .before .before .before .if1 .left)) in
+    let g = is-roomy (a .len .now) (a .e .now)
+        (sym (c .before .before .before .before .before .before .before .before .fits2 .ensures) ∙ not-false _
+        (c .before .before .before .before .before .before .before .if1 .left)) in
     omega (arith, g .few, g .room, c .before .before .before .before .before .before .wide .ensures, c .before .before .limit .ensures)
 
 add-len : tie.Need-add-len
 add-len c =
     let a = c .before .before .before .before .before .before .before .before .before .before .before .before .before .before .before .args in
-    let g = is-roomy (a .len .now) (a .e .now) (sym (c .before .before .before .before .before .before .before .before .before .before .before .fits2 .ensures) ∙ not-false _ (c .before .before .before .before .before .before .before .before .before .before .if1 .left)) in
+    let g = is-roomy (a .len .now) (a .e .now)
+        (sym (c .before .before .before .before .before .before .before .before .before .before .before .fits2 .ensures) ∙ not-false _
+        (c .before .before .before .before .before .before .before .before .before .before .if1 .left)) in
     omega (arith, g .few, max-small)
 
 same-length-4 : tie.Need-same-length-4
@@ -66,12 +75,14 @@ same-length-4 c = search needs
 returns-4 : tie.Need-returns-4
 returns-4 c =
     let a = c .before .before .before .before .before .before .before .before .before .before .before .before .before .before .before .args in
-    let g = sym (c .before .before .before .before .before .before .before .before .before .before .before .fits2 .ensures) ∙ not-false _ (c .before .before .before .before .before .before .before .before .before .before .if1 .left) in
+    let g = sym (c .before .before .before .before .before .before .before .before .before .before .before .fits2 .ensures)
+        ∙ not-false _ (c .before .before .before .before .before .before .before .before .before .before .if1 .left) in
     let f = is-roomy (a .len .now) (a .e .now) g in
     let h = sym (c .before .before .before .before .before .before .before .has .ensures) ∙ c .before .before .before .before .before .before .if2 .left in
     let u = c .before .before .put in
     let v = c .before .before .before .before .before .before .before .before .before .wide .ensures in
-    enter-joins (a .len .now) (a .e .now) (a .id) (a .priority) g (omega arith) (u .last .0) (rw v at h) (omega (arith, f .few, v, c .before .before .before .before .before .limit .ensures)) (rw v at (u .ensures .0)) (rw v at (u .ensures .1)) (u .kept .0)
+    enter-joins (a .len .now) (a .e .now) (a .id) (a .priority) g (omega arith) (u .last .0) (rw v at h)
+        (omega (arith, f .few, v, c .before .before .before .before .before .limit .ensures)) (rw v at (u .ensures .0)) (rw v at (u .ensures .1)) (u .kept .0)
 
 pub enter-spec : {M : Type 1} → statement M
 enter-spec =
