@@ -33,6 +33,9 @@ struct group {
     void (*choose)(const char *kind); /* called once before each case */
 };
 
+/* Calls measure with every case of the groups that the form is linked with (cases.c). */
+void each_case(void (*measure)(const struct bench *b));
+
 /* NULL where the form does not have it. */
 extern const struct group thread_group __attribute__((weak)); /* threads.c */
 extern const struct group bytes_group __attribute__((weak));  /* bytes.c */
@@ -40,7 +43,7 @@ extern const struct group slab_group __attribute__((weak));   /* slab.c */
 extern const struct group number_group __attribute__((weak)); /* numbers.c */
 extern const struct group refusal_group __attribute__((weak)); /* refusals.c */
 
-void expect(bool good, const char *what); /* or the run ends */
+void expect(bool good, const char *what); /* or the run ends (cases.c) */
 
 /* The check sum over what a form answers; it depends on the order. */
 static inline uint32_t mix(uint32_t sum, uint32_t id, int32_t result)

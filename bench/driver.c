@@ -1,11 +1,9 @@
-/* Runs one form through every case of the groups that it is linked with (bench.h).
+/* Times one form in every case of the groups that it is linked with (bench.h).
  *
  *   driver SAMPLES  prints for each case: operation, number, kind, the time of one operation in steps, in the best of
  *                   SAMPLES samples; the nanoseconds of a step; the check sum of a sample. A step is one of a chain of
  *                   multiplications that runs before and after each sample: in steps, a time does not depend on the
  *                   speed at which the processor's clock runs at the moment.
- *   driver          runs each case once, calls counted() before and after it, for a profiler that counts from one such
- *                   call to the next, and prints: operation, number, kind, operations in that run.
  *
  * SPDX-License-Identifier: Apache-2.0
  */
@@ -15,13 +13,8 @@
 #include <time.h>
 #include "bench.h"
 
-void expect(bool good, const char *what)
-{
-    if (!good) {
-        fprintf(stderr, "driver: %s\n", what);
-        exit(1);
-    }
-}
+static int samples;
+static double reading; /* what two readings of the clock are apart if nothing is between them */
 
 static double nanoseconds(void)
 {
@@ -35,7 +28,6 @@ static double lesser(double a, double b)
     return a < b ? a : b;
 }
 
-/* What two readings of the clock are apart if nothing is between them. */
 static double reading_the_clock(void)
 {
     double best = 1e9;
@@ -47,7 +39,7 @@ static double reading_the_clock(void)
 }
 
 /* The nanoseconds of one step. */
-static double step(double reading)
+static double step(void)
 {
     enum { STEPS = 1000 };
     static volatile uint64_t chain = 1;
@@ -64,7 +56,7 @@ static double step(double reading)
 }
 
 /* The nanoseconds of one operation; the check sum goes to *sum. */
-static double sample(const struct bench *b, double reading, uint32_t *sum)
+static double sample(const struct bench *b, uint32_t *sum)
 {
     double total = 0;
     *sum = 0;
@@ -78,50 +70,24 @@ static double sample(const struct bench *b, double reading, uint32_t *sum)
     return total / b->sample;
 }
 
-static void measure(const struct bench *b, int samples, double reading)
+static void measure(const struct bench *b)
 {
     double best = 1e9, best_step = 1e9;
     uint32_t sum = 0;
     for (int k = 0; k < samples; k++) {
-        double before = step(reading);
-        double time = sample(b, reading, &sum);
-        double beside = lesser(before, step(reading));
+        double before = step();
+        double time = sample(b, &sum);
+        double beside = lesser(before, step());
         best = lesser(best, time / beside);
         best_step = lesser(best_step, beside);
     }
     printf("%s\t%u\t%s\t%.4f\t%.4f\t%08x\n", b->operation, b->number, b->kind, best, best_step, sum);
 }
 
-NOINLINE void counted(void)
-{
-    __asm__ volatile("");
-}
-
-static void count(const struct bench *b)
-{
-    b->prepare(b->number);
-    counted();
-    b->run(b->times);
-    counted();
-    printf("%s\t%u\t%s\t%u\n", b->operation, b->number, b->kind, b->times);
-}
-
-static void run_group(const struct group *g, int samples, double reading)
-{
-    for (size_t i = 0; i < g->count; i++) {
-        g->choose(g->cases[i].kind);
-        if (samples > 0)
-            measure(&g->cases[i], samples, reading);
-        else
-            count(&g->cases[i]);
-    }
-}
-
 int main(int argc, char **argv)
 {
-    const struct group *groups[] = {&thread_group, &bytes_group, &slab_group, &number_group, &refusal_group};
-    double reading = reading_the_clock();
-    for (size_t i = 0; i < COUNT_OF(groups); i++)
-        if (groups[i] != NULL)
-            run_group(groups[i], argc > 1 ? atoi(argv[1]) : 0, reading);
+    expect(argc == 2, "usage: driver SAMPLES");
+    samples = atoi(argv[1]);
+    reading = reading_the_clock();
+    each_case(measure);
 }
