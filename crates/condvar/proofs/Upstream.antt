@@ -137,8 +137,12 @@ module _ (h e : List ℕ) (r : ℤ) (h' e' : List ℕ) (m : Housed layout h e) w
     pub all-woken : (out' : List ℕ) → Listed (on layout (broadcastOut (length out)) h e .turn .woken) out out'
         → AllAreWoken ok (waiting e (getD h 0 0)) out out'
     all-woken out' t =
-        t ∙ rw (is-on layout (broadcastOut (length out)) h e m, broadcasts-all (length out) (waiting e (getD h 0 0)) k, length-map
-            (waiting e (getD h 0 0)) (woken ok)) refl
+        t ∙ rw (
+          is-on layout (broadcastOut (length out)) h e m,
+          broadcasts-all (length out) (waiting e (getD h 0 0)) k,
+          length-map
+              (waiting e (getD h 0 0)) (woken ok),
+        ) refl
 
   -- upstream needs none; with too little the broadcast is refused, and all wait on
   pub broadcast-short : (out : List ℕ) → length out < length (waiting e (getD h 0 0)) → Does layout (broadcastOut (length out)) h e r h' e'
@@ -285,7 +289,7 @@ module _ (i p st : ℕ) (h e m d : List ℕ) (w : ℕ) (r : ℤ) (h' e' m' : Lis
   abbrev Done : Type 0
   Done =
       Both i p (mutex.layout .num m) (waiting e (getD h 0 0)) (waiting d (getD m 3 0)) w r (waiting e' (getD h' 0 0)) (mutex.layout .num m')
-          (waiting d (getD m' 3 0)) w'
+      (waiting d (getD m' 3 0)) w'
 
   done : (a : ℕ) → r ≡ pos a → Done
   done a z =
@@ -343,8 +347,15 @@ module _ (i p st : ℕ) (h e m d : List ℕ) (w : ℕ) (r : ℤ) (h' e' m' : Lis
       → length (waiting e (getD h 0 0)) < maxWaiters → holds i (waiting e (getD h 0 0)) ≡ false → (r ≡ pos a) × Done
   wait-joins a g small valid runs c room absent =
       let y : on layout (waitOut i p st) h e .turn .code ≡ waits =
-      rw (is-on layout (waitOut i p st) h e c, runs, lt-ltb p maxPriority valid, ident-entry p i small, absent, lt-ltb
-          (length (waiting e (getD h 0 0))) maxWaiters room) in
+      rw (
+        is-on layout (waitOut i p st) h e c,
+        runs,
+        lt-ltb p maxPriority valid,
+        ident-entry p i small,
+        absent,
+        lt-ltb
+            (length (waiting e (getD h 0 0))) maxWaiters room,
+      ) in
       let z : r ≡ pos a = t .code ∙ rw (g, y) in
       (z, done a z)
 
@@ -407,8 +418,15 @@ module _ (i p st : ℕ) (h e m d : List ℕ) (w : ℕ) (r : ℤ) (h' e' m' : Lis
       pub wait-full-refuses : holds i (waiting e (getD h 0 0)) ≡ false → maxWaiters ≤ length (waiting e (getD h 0 0)) → Unmoved enomem
       wait-full-refuses z k =
           queue-refuses 11
-          (rw (is-on layout (waitOut i p st) h e c, runs, lt-ltb p maxPriority valid, ident-entry p i small, z, le-ltb
-              (length (waiting e (getD h 0 0))) maxWaiters k))
+          (rw (
+            is-on layout (waitOut i p st) h e c,
+            runs,
+            lt-ltb p maxPriority valid,
+            ident-entry p i small,
+            z,
+            le-ltb
+                (length (waiting e (getD h 0 0))) maxWaiters k,
+          ))
 
 -- upstream's lemmas, which end in `ensures true`
 all-signals : (q : List ℕ) → signals (length q) q ≡ record { answers = map (λ x. pos 1) q; woken = map (woken ok) q; queue = [] }

@@ -461,7 +461,7 @@ module _ (h e : List ℕ) (r : ℤ) (h' e' : List ℕ) (m : Housed layout h e) (
   overflow-refuses i o k d =
       let f = inv-formed (thread i) (getD h 2 0) (waiting e (getD h 3 0)) (rw o at v) in
       let y : on layout (tryLockOut i) h e .turn .code
-          ≡ eoverflow = rw (is-on layout (tryLockOut i) h e m, o, no-lock i (getD h 2 0) (waiting e (getD h 3 0)) f k) in
+      ≡ eoverflow = rw (is-on layout (tryLockOut i) h e m, o, no-lock i (getD h 2 0) (waiting e (getD h 3 0)) f k) in
       unchanged layout (tryLockOut i) h e r h' e' 138 d y
 
 -- what upstream demands is refused here: a header that is not as it should be
@@ -514,7 +514,7 @@ unlocks-all i zero = ap left (now-free i 1 refl)
 unlocks-all i (suc k) =
     let z : suc (suc k) - 1 ≡ suc k = omega arith in
     ap (λ (o : Out Mutex). run mutex-kind plain (left o) (times (suc k) (calls i unlock)))
-        (one-less i (suc (suc k)) [] (lt-ltb 0 (suc (suc k)) (omega arith)) (omega arith))
+    (one-less i (suc (suc k)) [] (lt-ltb 0 (suc (suc k)) (omega arith)) (omega arith))
     ∙ ap (λ (c : ℕ). run mutex-kind plain (alone i c) (times (suc k) (calls i unlock))) z
     ∙ unlocks-all i k
 

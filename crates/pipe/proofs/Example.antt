@@ -90,8 +90,12 @@ written = 1 ∷ 2 ∷ 3 ∷ 9 ∷ []
 started : Started layout (may 4 (9 ∷ 9 ∷ 9 ∷ 9 ∷ [])) (new 4 (9 ∷ 9 ∷ 9 ∷ 9 ∷ [])) (7 ∷ 7 ∷ 7 ∷ 7 ∷ []) (9 ∷ 9 ∷ 9 ∷ 9 ∷ []) ok (4 ∷ 0 ∷ 0 ∷ 1 ∷ [])
     (9 ∷ 9 ∷ 9 ∷ 9 ∷ [])
 unfolding turn
-started = record { code = refl; made = λ e. record { formed = refl; object = refl; beside = refl; rest = refl; long = (refl, refl) }; kept = λ n e. absurd
-    (let y : _≡_ {A = ℕ} 0 1 = cc in omega arith) }
+started = record {
+  code = refl;
+  made = λ e. record { formed = refl; object = refl; beside = refl; rest = refl; long = (refl, refl) };
+  kept = λ n e. absurd
+      (let y : _≡_ {A = ℕ} 0 1 = cc in omega arith);
+}
 
 -- the last stands first; the caller's place for the read has room for two
 abbrev after-call : Call → ℤ → List ℕ → Step Call
@@ -112,9 +116,9 @@ ran =
     (made {k = resets} {r = ok} {h = 4 ∷ 1 ∷ 2 ∷ 1 ∷ []} {b = written} [] []
     (made {k = reads 1} {r = pos 1} {h = 4 ∷ 0 ∷ 3 ∷ 1 ∷ []} {b = written} (7 ∷ 8 ∷ []) (1 ∷ 8 ∷ [])
     (made {k = writes (1 ∷ 2 ∷ 3 ∷ [])} {r = pos 3} {h = 4 ∷ 0 ∷ 0 ∷ 1 ∷ []} {b = 9 ∷ 9 ∷ 9 ∷ 9 ∷ []} [] [] begun
-        (record { code = refl; after = becomes refl refl refl refl (refl, refl) }) refl)
     (record { code = refl; after = becomes refl refl refl refl (refl, refl) }) refl)
-        (record { code = refl; after = becomes refl refl refl refl (refl, refl) }) refl) (record { code = refl; after = (refl, refl) }) refl
+    (record { code = refl; after = becomes refl refl refl refl (refl, refl) }) refl)
+    (record { code = refl; after = becomes refl refl refl refl (refl, refl) }) refl) (record { code = refl; after = (refl, refl) }) refl
 
 booked : (got steps ≡ 1 ∷ []) × (line steps ≡ 1 ∷ []) × (open-by steps ≡ true) × (resetting-by steps ≡ true)
 booked = (refl, refl, refl, refl)

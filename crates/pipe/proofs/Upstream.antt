@@ -69,11 +69,31 @@ module _ (l : List ℕ) (p : Pipe) where
       → Inv (left (done q v) p) → WriteCheck (length l) p (answer (done q v)) (left (done q v) p)
   wrote (never (pos c)) w o r i = absurd w
   wrote (never (negsuc c)) w o r i =
-      record { inv = i; sized = refl; closed = o; resetting = r; some = λ k e. absurd (no-number e); few = λ k e. absurd
-          (no-number e); more = λ k e. absurd (no-number e); under = λ k e. absurd (no-number e); kept = λ e. refl }
+      record {
+        inv = i;
+        sized = refl;
+        closed = o;
+        resetting = r;
+        some = λ k e. absurd (no-number e);
+        few = λ k e. absurd
+            (no-number e);
+        more = λ k e. absurd (no-number e);
+        under = λ k e. absurd (no-number e);
+        kept = λ e. refl;
+      }
   wrote later w o r i =
-      record { inv = i; sized = refl; closed = o; resetting = r; some = λ k e. absurd (no-number e); few = λ k e. absurd
-          (no-number e); more = λ k e. absurd (no-number e); under = λ k e. absurd (no-number e); kept = λ e. refl }
+      record {
+        inv = i;
+        sized = refl;
+        closed = o;
+        resetting = r;
+        some = λ k e. absurd (no-number e);
+        few = λ k e. absurd
+            (no-number e);
+        more = λ k e. absurd (no-number e);
+        under = λ k e. absurd (no-number e);
+        kept = λ e. refl;
+      }
   wrote (move n) w o r i =
       let m = length-append (p .ring .held) (take n l) in
       let t = length-take n l in
@@ -107,11 +127,27 @@ module _ (n : ℕ) (p : Pipe) where
       → ReadCheck n p (answer (done g v)) (left (done g v) p)
   took (never (pos c)) w r i = absurd w
   took (never (negsuc c)) w r i =
-      record { inv = i; sized = refl; resetting = r; some = λ k e. absurd (no-number e); few = λ k e. absurd (no-number e); fewer = λ k e. absurd
-          (no-number e); kept = λ e. refl }
+      record {
+        inv = i;
+        sized = refl;
+        resetting = r;
+        some = λ k e. absurd (no-number e);
+        few = λ k e. absurd (no-number e);
+        fewer = λ k e. absurd
+            (no-number e);
+        kept = λ e. refl;
+      }
   took later w r i =
-      record { inv = i; sized = refl; resetting = r; some = λ k e. absurd (no-number e); few = λ k e. absurd (no-number e); fewer = λ k e. absurd
-          (no-number e); kept = λ e. refl }
+      record {
+        inv = i;
+        sized = refl;
+        resetting = r;
+        some = λ k e. absurd (no-number e);
+        few = λ k e. absurd (no-number e);
+        fewer = λ k e. absurd
+            (no-number e);
+        kept = λ e. refl;
+      }
   took (move m) w r i =
       let d = length-drop m (p .ring .held) in
       record {

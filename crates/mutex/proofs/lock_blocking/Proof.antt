@@ -19,9 +19,11 @@ same-length-2 : tie.Need-same-length-2
 same-length-2 c = search needs
 
 returns : tie.Need-returns
-returns c = let a = c .before .before .before .before .before .before .args in
-    (lock-no (a .h .now) (a .e .now) (a .id) (a .priority) (a .state)
-    (small-no (a .h .now) (a .e .now) (sym (c .before .housed .ensures) ∙ not-true _ (c .if1 .taken))), unwritten (a .h .now))
+returns c = let a = c .before .before .before .before .before .before .args in (
+  lock-no (a .h .now) (a .e .now) (a .id) (a .priority) (a .state)
+      (small-no (a .h .now) (a .e .now) (sym (c .before .housed .ensures) ∙ not-true _ (c .if1 .taken))),
+  unwritten (a .h .now),
+)
 
 slice-read-if2 : tie.Need-slice-read-if2
 slice-read-if2 c = let a = c .before .before .before .before .before .before .before .args in omega
@@ -51,21 +53,27 @@ same-length-6 : tie.Need-same-length-6
 same-length-6 c = search needs
 
 returns-3 : tie.Need-returns-3
-returns-3 c = let a = c .before .before .before .before .before .before .before .before .before .before .args in
-    (lock-no (a .h .now) (a .e .now) (a .id) (a .priority) (a .state)
-    (ownerless-no (a .h .now) (a .e .now) (sym (c .before .before .before .before .before .housed .ensures) ∙ not-false _
-    (c .before .before .before .before .if1 .left)) (omega arith) (omega arith)), unwritten (a .h .now))
+returns-3 c = let a = c .before .before .before .before .before .before .before .before .before .before .args in (
+  lock-no (a .h .now) (a .e .now) (a .id) (a .priority) (a .state)
+      (ownerless-no (a .h .now) (a .e .now) (sym (c .before .before .before .before .before .housed .ensures) ∙ not-false _
+      (c .before .before .before .before .if1 .left)) (omega arith) (omega arith)),
+  unwritten (a .h .now),
+)
 
 slice-read-if4 : tie.Need-slice-read-if4
-slice-read-if4 c = let a = c .before .before .before .before .before .before .before .before .before .before .before .args in omega
-    (arith, its-words (a .h .now) (a .e .now)
-    (sym (c .before .before .before .before .before .before .housed .ensures) ∙ not-false _ (c .before .before .before .before .before .if1 .left)))
+slice-read-if4 c = let a = c .before .before .before .before .before .before .before .before .before .before .before .args in omega (
+  arith,
+  its-words (a .h .now) (a .e .now)
+      (sym (c .before .before .before .before .before .before .housed .ensures) ∙ not-false _ (c .before .before .before .before .before .if1 .left)),
+)
 
 index-1-pend : tie.Need-index-1-pend
-index-1-pend c = let a = c .before .before .before .before .before .before .before .before .before .before .before .before .args in omega
-    (arith, its-words (a .h .now) (a .e .now)
-    (sym (c .before .before .before .before .before .before .before .housed .ensures) ∙ not-false _
-    (c .before .before .before .before .before .before .if1 .left)))
+index-1-pend c = let a = c .before .before .before .before .before .before .before .before .before .before .before .before .args in omega (
+  arith,
+  its-words (a .h .now) (a .e .now)
+      (sym (c .before .before .before .before .before .before .before .housed .ensures) ∙ not-false _
+      (c .before .before .before .before .before .before .if1 .left)),
+)
 
 pend-requires : tie.Need-pend-requires
 pend-requires c κs = search needs
@@ -80,9 +88,13 @@ returns-4 : tie.Need-returns-4
 returns-4 c = let a = c .before .before .before .before .before .before .before .before .before .before .before .before .before .before .before .before .before .args in let u = c .before .before .pend in (rw (answered {z = u .result} (u .ok)) (lock-waits (a .h .now) (a .e .now) (sym (c .before .before .before .before .before .before .before .before .before .before .before .before .housed .ensures) ∙ not-false _ (c .before .before .before .before .before .before .before .before .before .before .before .if1 .left)) (a .id) (a .priority) (a .state) (omega arith) (omega arith) (c .before .before .before .before .before .if4 .taken) (u .result) (u .last .0) (u .last .1 .0) (u .ensures)), joins (a .h .now) (its-words (a .h .now) (a .e .now) (sym (c .before .before .before .before .before .before .before .before .before .before .before .before .housed .ensures) ∙ not-false _ (c .before .before .before .before .before .before .before .before .before .before .before .if1 .left))) (a .e .now) (u .result) (u .last .0) (u .last .1 .0) (a .id) (a .priority) (a .state) (u .ensures))
 
 nest-requires : tie.Need-nest-requires
-nest-requires c κs = let a = c .before .before .before .before .before .before .before .before .before .before .before .before .before .before .args in
-    ((sym (c .before .before .before .before .before .before .before .before .before .housed .ensures) ∙ not-false _
-    (c .before .before .before .before .before .before .before .before .if1 .left)), omega arith, omega arith, omega arith)
+nest-requires c κs = let a = c .before .before .before .before .before .before .before .before .before .before .before .before .before .before .args in (
+  (sym (c .before .before .before .before .before .before .before .before .before .housed .ensures) ∙ not-false _
+      (c .before .before .before .before .before .before .before .before .if1 .left)),
+  omega arith,
+  omega arith,
+  omega arith,
+)
 
 same-length-9 : tie.Need-same-length-9
 same-length-9 c = search needs

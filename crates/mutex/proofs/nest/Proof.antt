@@ -17,9 +17,11 @@ fits-requires : tie.Need-fits-requires
 fits-requires c κs = search needs
 
 returns : tie.Need-returns
-returns c = let a = c .before .before .before .before .before .args in let g = c .before .before .before .before .before .pre in
-    (lock-no (a .h .now) (a .e .now) (a .id) (a .priority) (a .state)
-    (crowded-no (a .h .now) (a .e .now) (g .0) (sym (c .before .fits2 .ensures) ∙ not-true _ (c .if1 .taken))), unwritten (a .h .now))
+returns c = let a = c .before .before .before .before .before .args in let g = c .before .before .before .before .before .pre in (
+  lock-no (a .h .now) (a .e .now) (a .id) (a .priority) (a .state)
+      (crowded-no (a .h .now) (a .e .now) (g .0) (sym (c .before .fits2 .ensures) ∙ not-true _ (c .if1 .taken))),
+  unwritten (a .h .now),
+)
 
 caller-requires : tie.Need-caller-requires
 caller-requires c κs = search needs

@@ -41,7 +41,7 @@ returns-3 : tie.Need-returns-3
 returns-3 c =
     let a = c .before .before .before .before .before .before .before .args in
     let t = pass-free (a .h .now) (a .e .now) (a .who .now) (omega arith) (sym (c .before .before .fits2 .ensures) ∙ not-false _ (c .before .if2 .left))
-        (omega arith) in
+    (omega arith) in
     (t .0, (t .1, frees (a .h .now) (omega arith)))
 
 index-1-unpend-first : tie.Need-index-1-unpend-first
@@ -80,7 +80,7 @@ returns-4 c =
     let u = c .unpend-first in
     let r = sym (c .before .before .before .before .before .fits2 .ensures) ∙ not-false _ (c .before .before .before .before .if2 .left) in
     let t = pass-first (a .h .now) (a .e .now) (a .who .now) (omega arith) r (u .result) (u .last .0) (u .last .1 .1 .1 .0) (omega arith) (u .ensures .0)
-        (retold (a .h .now) (a .e .now) (a .who .now) (omega arith) r _ 0 (u .last .1 .1 .1 .0) (omega arith) r (u .ensures .1)) in
+    (retold (a .h .now) (a .e .now) (a .who .now) (omega arith) r _ 0 (u .last .1 .1 .1 .0) (omega arith) r (u .ensures .1)) in
     (t .0, (t .1, passes (a .h .now) (omega arith) (a .e .now) (u .result) (u .last .0) (a .e .now) _ r (omega arith) (u .ensures .0)))
 
 pub pass-spec : {M : Type 1} → statement M

@@ -21,9 +21,11 @@ slice-read-if2 c = let a = c .before .before .before .before .before .args in le
     (arith, its-words (a .h .now) (a .e .now) (g .0))
 
 returns-2 : tie.Need-returns-2
-returns-2 c = let a = c .before .before .before .before .before .before .args in let g = c .before .before .before .before .before .before .pre in
-    (lock-no (a .h .now) (a .e .now) (a .id) (a .priority) (a .state)
-    (awaited-no (a .h .now) (a .e .now) (g .0) (omega arith) (g .1) (omega arith)), unwritten (a .h .now))
+returns-2 c = let a = c .before .before .before .before .before .before .args in let g = c .before .before .before .before .before .before .pre in (
+  lock-no (a .h .now) (a .e .now) (a .id) (a .priority) (a .state)
+      (awaited-no (a .h .now) (a .e .now) (g .0) (omega arith) (g .1) (omega arith)),
+  unwritten (a .h .now),
+)
 
 caller-requires : tie.Need-caller-requires
 caller-requires c κs = search needs

@@ -19,7 +19,7 @@ returns : tie.Need-returns
 returns c =
     let a = c .before .before .before .before .before .args in
     let t = unlock-no (a .h .now) (a .e .now) (a .id) (a .who .now)
-        (small-no (a .h .now) (a .e .now) (sym (c .before .housed .ensures) ∙ not-true _ (c .if1 .taken))) in
+    (small-no (a .h .now) (a .e .now) (sym (c .before .housed .ensures) ∙ not-true _ (c .if1 .taken))) in
     (t .0, (t .1, unwritten (a .h .now)))
 
 slice-read-held : tie.Need-slice-read-held
@@ -39,8 +39,11 @@ returns-2 c =
 slice-read-if3 : tie.Need-slice-read-if3
 slice-read-if3 c =
     let a = c .before .before .before .before .before .before .before .before .args in
-    omega (arith, its-words (a .h .now) (a .e .now)
-        (sym (c .before .before .before .before .housed .ensures) ∙ not-false _ (c .before .before .before .if1 .left)))
+    omega (
+      arith,
+      its-words (a .h .now) (a .e .now)
+          (sym (c .before .before .before .before .housed .ensures) ∙ not-false _ (c .before .before .before .if1 .left)),
+    )
 
 same-length-3 : tie.Need-same-length-3
 same-length-3 c = search needs
@@ -49,15 +52,18 @@ returns-3 : tie.Need-returns-3
 returns-3 c =
     let a = c .before .before .before .before .before .before .before .before .before .args in
     let t = unlock-no (a .h .now) (a .e .now) (a .id) (a .who .now)
-        (ownerless-no (a .h .now) (a .e .now) (sym (c .before .before .before .before .before .housed .ensures) ∙ not-false _
-        (c .before .before .before .before .if1 .left)) (omega arith) (omega arith)) in
+    (ownerless-no (a .h .now) (a .e .now) (sym (c .before .before .before .before .before .housed .ensures) ∙ not-false _
+    (c .before .before .before .before .if1 .left)) (omega arith) (omega arith)) in
     (t .0, (t .1, unwritten (a .h .now)))
 
 slice-read-fits : tie.Need-slice-read-fits
 slice-read-fits c =
     let a = c .before .before .before .before .before .before .before .before .before .before .args in
-    omega (arith, its-words (a .h .now) (a .e .now)
-        (sym (c .before .before .before .before .before .before .housed .ensures) ∙ not-false _ (c .before .before .before .before .before .if1 .left)))
+    omega (
+      arith,
+      its-words (a .h .now) (a .e .now)
+          (sym (c .before .before .before .before .before .before .housed .ensures) ∙ not-false _ (c .before .before .before .before .before .if1 .left)),
+    )
 
 fits-requires : tie.Need-fits-requires
 fits-requires c κs = search needs
@@ -69,16 +75,19 @@ returns-4 : tie.Need-returns-4
 returns-4 c =
     let a = c .before .before .before .before .before .before .before .before .before .before .before .before .args in
     let t = unlock-no (a .h .now) (a .e .now) (a .id) (a .who .now)
-        (crowded-no (a .h .now) (a .e .now) (sym (c .before .before .before .before .before .before .before .before .housed .ensures) ∙ not-false _
-        (c .before .before .before .before .before .before .before .if1 .left)) (sym (c .before .fits2 .ensures) ∙ not-true _ (c .if4 .taken))) in
+    (crowded-no (a .h .now) (a .e .now) (sym (c .before .before .before .before .before .before .before .before .housed .ensures) ∙ not-false _
+    (c .before .before .before .before .before .before .before .if1 .left)) (sym (c .before .fits2 .ensures) ∙ not-true _ (c .if4 .taken))) in
     (t .0, (t .1, unwritten (a .h .now)))
 
 slice-read-if5 : tie.Need-slice-read-if5
 slice-read-if5 c =
     let a = c .before .before .before .before .before .before .before .before .before .before .before .before .before .args in
-    omega (arith, its-words (a .h .now) (a .e .now)
-        (sym (c .before .before .before .before .before .before .before .before .before .housed .ensures) ∙ not-false _
-        (c .before .before .before .before .before .before .before .before .if1 .left)))
+    omega (
+      arith,
+      its-words (a .h .now) (a .e .now)
+          (sym (c .before .before .before .before .before .before .before .before .before .housed .ensures) ∙ not-false _
+          (c .before .before .before .before .before .before .before .before .if1 .left)),
+    )
 
 same-length-5 : tie.Need-same-length-5
 same-length-5 c = search needs
@@ -87,9 +96,9 @@ returns-5 : tie.Need-returns-5
 returns-5 c =
     let a = c .before .before .before .before .before .before .before .before .before .before .before .before .before .before .args in
     let s = held-yes (a .h .now) (a .e .now) (sym
-        (c .before .before .before .before .before .before .before .before .before .before .housed .ensures)
-        ∙ not-false _ (c .before .before .before .before .before .before .before .before .before .if1 .left)) (omega arith) (omega arith)
-        (sym (c .before .before .before .fits2 .ensures) ∙ not-false _ (c .before .before .if4 .left)) in
+    (c .before .before .before .before .before .before .before .before .before .before .housed .ensures)
+    ∙ not-false _ (c .before .before .before .before .before .before .before .before .before .if1 .left)) (omega arith) (omega arith)
+    (sym (c .before .before .before .fits2 .ensures) ∙ not-false _ (c .before .before .if4 .left)) in
     let t = unlock-other (a .h .now) (a .e .now) s (a .id) (a .who .now) (omega arith) (c .if5 .taken) in
     (t .0, (t .1, unwritten (a .h .now)))
 
@@ -99,9 +108,12 @@ sub-h c = search needs
 slice-write-h : tie.Need-slice-write-h
 slice-write-h c =
     let a = c .before .before .before .before .before .before .before .before .before .before .before .before .before .before .before .args in
-    omega (arith, its-words (a .h .now) (a .e .now)
-        (sym (c .before .before .before .before .before .before .before .before .before .before .before .housed .ensures) ∙ not-false _
-        (c .before .before .before .before .before .before .before .before .before .before .if1 .left)))
+    omega (
+      arith,
+      its-words (a .h .now) (a .e .now)
+          (sym (c .before .before .before .before .before .before .before .before .before .before .before .housed .ensures) ∙ not-false _
+          (c .before .before .before .before .before .before .before .before .before .before .if1 .left)),
+    )
 
 same-length-6 : tie.Need-same-length-6
 same-length-6 c = search needs
@@ -110,9 +122,9 @@ returns-6 : tie.Need-returns-6
 returns-6 c =
     let a = c .before .before .before .before .before .before .before .before .before .before .before .before .before .before .before .args in
     let z = sym (c .before .before .before .before .before .before .before .before .before .before .before .housed .ensures)
-        ∙ not-false _ (c .before .before .before .before .before .before .before .before .before .before .if1 .left) in
+    ∙ not-false _ (c .before .before .before .before .before .before .before .before .before .before .if1 .left) in
     let s = held-yes (a .h .now) (a .e .now) z (omega arith) (omega arith)
-        (sym (c .before .before .before .before .fits2 .ensures) ∙ not-false _ (c .before .before .before .if4 .left)) in
+    (sym (c .before .before .before .before .fits2 .ensures) ∙ not-false _ (c .before .before .before .if4 .left)) in
     let t = unlock-nested (a .h .now) (a .e .now) s (a .id) (a .who .now) (omega arith) (omega arith) in
     (t .0, (t .1, counts (a .h .now) (its-words (a .h .now) (a .e .now) z) _))
 
@@ -127,9 +139,9 @@ returns-7 c =
     let a = c .before .before .before .before .before .before .before .before .before .before .before .before .before .before .before .before .before .before .before .before .args in
     let u = c .before .before .pass in
     let s = held-yes (a .h .now) (a .e .now) (sym
-        (c .before .before .before .before .before .before .before .before .before .before .before .before .before .before .before .before .housed .ensures) ∙ not-false _ (c .before .before .before .before .before .before .before .before .before .before .before .before .before .before .before .if1 .left)) (omega arith) (omega arith) (sym (c .before .before .before .before .before .before .before .before .before .fits2 .ensures) ∙ not-false _ (c .before .before .before .before .before .before .before .before .if4 .left)) in
+    (c .before .before .before .before .before .before .before .before .before .before .before .before .before .before .before .before .housed .ensures) ∙ not-false _ (c .before .before .before .before .before .before .before .before .before .before .before .before .before .before .before .if1 .left)) (omega arith) (omega arith) (sym (c .before .before .before .before .before .before .before .before .before .fits2 .ensures) ∙ not-false _ (c .before .before .before .before .before .before .before .before .if4 .left)) in
     let t = unlock-passes (a .h .now) (a .e .now) s (a .id) (a .who .now) (omega arith) (omega arith) (omega arith) (u .result) (u .last .0)
-        (u .last .1 .1 .0) (u .ensures .0, u .ensures .1 .0) in
+    (u .last .1 .1 .0) (u .ensures .0, u .ensures .1 .0) in
     rw (answered {z = u .result} (u .ok)) (t .0, (t .1, u .ensures .1 .1))
 
 pub unlock-spec : {M : Type 1} → statement M
