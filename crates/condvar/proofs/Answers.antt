@@ -18,8 +18,9 @@ use Rattle.wait_queue.proofs.Answers.{pend-parks}
 use Rattle.kind.specs.Verdict.{everybody, wake, allow}
 use Rattle.kind.specs.Kind.{plain}
 use Rattle.kind.specs.Object.{Out, anyone, on, Does, sane}
+use Rattle.kind.specs.Post.{Tells, Lists}
 use Rattle.kind.proofs.Memory.{Header, same-header, is-sane, any-waiting, alike, malformed}
-use Rattle.kind.proofs.Answers.{any-line, length-line, Tells, Lists, silent, unlisted, verdict, call-no, keeps, wakes, wakes-everybody, handed-no, waits-now, unseen, seen, start-short, start-made}
+use Rattle.kind.proofs.Answers.{any-line, length-line, silent, unlisted, verdict, call-no, keeps, wakes, wakes-everybody, handed-no, waits-now, unseen, seen, start-short, start-made}
 use Rattle.mutex.specs.Mutex.{Mutex}
 use Rattle.mutex.specs.Post as mutex
 use Rattle.mutex.specs.Post.{passOut, releaseOut}
@@ -88,7 +89,7 @@ module _ (h e : List ℕ) where
     pub signal-first : (w w' : ℕ) (r : ℤ) (k : ℕ) → 0 < getD h 0 0 → queue.Does (unpendFirst ok) (getD h 0 0) e r k e
         → Told (at (unpendFirst ok) (getD h 0 0) e .woken) w w' → Signals w (pos 1) (set h 0 k) w'
     signal-first w w' r k b d t =
-        wakes condvar-kind layout plain anyone signal h e s 0 refl tt ok 1 (set h 0 k) r k w w' (rw (any-line e (getD h 0 0), lt-ltb 0 (getD h 0 0) b)) b d t
+        wakes condvar-kind layout plain anyone signal h e s 0 refl tt ok 1 (set h 0 k) r k w w' (rw (any-line e (getD h 0 0), lt-ltb 0 (getD h 0 0) b)) b (d, t)
         (left h k words)
 
     everyone : verdict condvar-kind layout plain anyone broadcast h e ≡ allow tt (wake everybody (λ t. ok)) (pos (length (waiting e (getD h 0 0))))
@@ -96,7 +97,7 @@ module _ (h e : List ℕ) where
 
     pub broadcast-all : (out : List ℕ) (r : ℤ) (k : ℕ) (out' : List ℕ) → queue.Does (unpendAll ok (length out)) (getD h 0 0) e r k e
         → Listed (at (unpendAll ok (length out)) (getD h 0 0) e .woken) out out' → Broadcasts out r (set h 0 k) out'
-    broadcast-all out r k out' d t = wakes-everybody condvar-kind layout plain anyone broadcast h e s 0 refl ok everyone (omega arith) r k out out' d t refl
+    broadcast-all out r k out' d t = wakes-everybody condvar-kind layout plain anyone broadcast h e s 0 refl ok everyone (omega arith) r k out out' (d, t) refl
 
     pub got : (g : List ℕ → ℤ) → g (waiting e (getD h 0 0)) ≡ on layout (getOut g) h e .turn .code
     got g = seen condvar-kind layout (λ n q. g q) h e s

@@ -13,9 +13,7 @@ use wait_queue::WAITS;
 ghost use Prim.Native.Nat.{_≤_, _<_};
 ghost use lib.ListN.{length};
 ghost use Rattle.thread.specs.Thread.{running};
-ghost use Rattle.wait_queue.specs.Post.{Told, Listed};
-ghost use Rattle.kind.specs.Object.{on, Does};
-ghost use Rattle.sem.specs.Post.{layout, giveOut, takeOut, resetOut, Starts};
+ghost use Rattle.sem.specs.Post.{Starts, Gives, Takes, Resets};
 ghost use Rattle.sem.specs.History.{fresh};
 ghost use Rattle.sem.specs.Worked.{worked};
 ghost use Rattle.demo.specs.Run.{Is, two};
@@ -112,7 +110,7 @@ fn init(h: &mut [u32; 3], e: &[u64; MAX_WAITERS], count: u32, limit: u32) -> i32
 }
 
 fn take(h: &mut [u32; 3], e: &mut [u64; MAX_WAITERS], id: u32, priority: u32) -> i32
-    ensures { λ r. ⌜ Does layout (takeOut id priority running) (now (h .entry)) (now (e .entry)) r (now (h .exit)) (now (e .exit)) ⌝ }
+    ensures { λ r. ⌜ Takes id priority running (now (h .entry)) (now (e .entry)) r (now (h .exit)) (now (e .exit)) ⌝ }
 {
     text(b"take thread ");
     number(id);
@@ -132,8 +130,7 @@ fn take(h: &mut [u32; 3], e: &mut [u64; MAX_WAITERS], id: u32, priority: u32) ->
 }
 
 fn give(h: &mut [u32; 3], e: &[u64; MAX_WAITERS], who: &mut u64) -> i32
-    ensures { λ r. ⌜ Does layout giveOut (now (h .entry)) (now (e .entry)) r (now (h .exit)) (now (e .entry)) ⌝ }
-    ensures { λ r. ⌜ Told (on layout giveOut (now (h .entry)) (now (e .entry)) .turn .woken) (now (who .entry)) (now (who .exit)) ⌝ }
+    ensures { λ r. ⌜ Gives (now (h .entry)) (now (e .entry)) (now (who .entry)) r (now (h .exit)) (now (who .exit)) ⌝ }
 {
     text(b"give: ");
     let r = sem::give(h, e, who);
@@ -152,8 +149,7 @@ fn give(h: &mut [u32; 3], e: &[u64; MAX_WAITERS], who: &mut u64) -> i32
 }
 
 fn reset(h: &mut [u32; 3], e: &[u64; MAX_WAITERS], out: &mut [u64; MAX_WAITERS]) -> i32
-    ensures { λ r. ⌜ Does layout (resetOut (length (now (out .entry)))) (now (h .entry)) (now (e .entry)) r (now (h .exit)) (now (e .entry)) ⌝ }
-    ensures { λ r. ⌜ Listed (on layout (resetOut (length (now (out .entry)))) (now (h .entry)) (now (e .entry)) .turn .woken) (now (out .entry)) (now (out .exit)) ⌝ }
+    ensures { λ r. ⌜ Resets (now (h .entry)) (now (e .entry)) (now (out .entry)) r (now (h .exit)) (now (out .exit)) ⌝ }
 {
     text(b"reset: ");
     let n = seq::wide(h[2]);

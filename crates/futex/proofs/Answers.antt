@@ -18,8 +18,9 @@ use Rattle.wait_queue.specs.Post as queue
 use Rattle.kind.specs.Verdict.{everybody, upTo, wake, allow}
 use Rattle.kind.specs.Kind.{plain}
 use Rattle.kind.specs.Object.{anyone, thread, on, Does, sane}
+use Rattle.kind.specs.Post.{Lists}
 use Rattle.kind.proofs.Memory.{Header, same-header, refuses, is-sane, malformed}
-use Rattle.kind.proofs.Answers.{any-line, length-line, Lists, unlisted, verdict, call-no, call-barred, call-denied, keeps, keeps-unlisted, no-place-one, wakes-one, wakes-everybody, handed-no, waits-now, unseen, seen, start-short, start-made}
+use Rattle.kind.proofs.Answers.{any-line, length-line, unlisted, verdict, call-no, call-barred, call-denied, keeps, keeps-unlisted, no-place-one, wakes-one, wakes-everybody, handed-no, waits-now, unseen, seen, start-short, start-made}
 use Rattle.futex.specs.Futex.{Futex, wait, wakeOne, wakeAll, set, futex-kind}
 use Rattle.futex.specs.Post.{layout, waitOut, wakeCall, wakeOut, setOut, getOut, Starts, WaitDecided, WakeDecided}
 use Rattle.futex.proofs.Law.{mk}
@@ -117,7 +118,7 @@ module _ (h e : List ℕ) where
 
       pub wake-everybody : (r : ℤ) (k : ℕ) (out' : List ℕ) → queue.Does (unpendAll ok (length out)) (getD h 1 0) e r k e
           → Listed (at (unpendAll ok (length out)) (getD h 1 0) e .woken) out out' → Wakes true out r (list.set h 1 k) out'
-      wake-everybody r k out' d t = wakes-everybody futex-kind layout plain anyone wakeAll h e s 0 refl ok everyone (omega arith) r k out out' d t (left h words k .num)
+      wake-everybody r k out' d t = wakes-everybody futex-kind layout plain anyone wakeAll h e s 0 refl ok everyone (omega arith) r k out out' (d, t) (left h words k .num)
 
       -- one
       first : 0 < getD h 1 0 → verdict futex-kind layout plain anyone wakeOne h e ≡ allow (layout .num h) (wake (upTo 1) (λ t. ok)) (pos 1)
@@ -133,7 +134,7 @@ module _ (h e : List ℕ) where
       pub wake-first : (r : ℤ) (k x' : ℕ) → 0 < getD h 1 0 → 1 ≤ length out → queue.Does (unpendFirst ok) (getD h 1 0) e r k e
           → Told (at (unpendFirst ok) (getD h 1 0) e .woken) (getD out 0 0) x' → Wakes false out (pos 1) (list.set h 1 k) (list.set out 0 x')
       wake-first r k x' b c d t =
-          wakes-one futex-kind layout plain anyone wakeOne h e s 0 refl (layout .num h) ok 1 (first b) b out (list.set h 1 k) r k x' c d t (left h words k)
+          wakes-one futex-kind layout plain anyone wakeOne h e s 0 refl (layout .num h) ok 1 (first b) b out (list.set h 1 k) r k x' c (d, t) (left h words k)
 
     pub got : (g : Futex → List ℕ → ℕ) → pos (g (layout .num h) (waiting e (getD h 1 0))) ≡ on layout (getOut g) h e .turn .code
     got g = seen futex-kind layout (λ n q. pos (g n q)) h e s

@@ -15,11 +15,11 @@ use Rattle.thread.specs.Code.{ok, einval}
 use Rattle.thread.specs.Caller.{callerCode}
 use Rattle.wait_queue.specs.Queue.{entry, ident, woken, waiting, roomy}
 use Rattle.wait_queue.specs.Turn.{Turn, refuse, at, parked, pend, unpendFirst, unpendAll}
-use Rattle.wait_queue.specs.Post.{Told, Listed}
-use Rattle.wait_queue.specs.Post as queue
+use Rattle.wait_queue.specs.Post.{Told, Listed, Pends, UnpendsFirst, UnpendsAll}
 use Rattle.kind.specs.Verdict.{upTo, everybody, keep, park, wake, Verdict, deny, allow}
 use Rattle.kind.specs.Kind.{Kind}
 use Rattle.kind.specs.Object.{Out, refused, settled, Caller, thread, name, code, carried, call, handed, looks, Layout, on, Does, Started, sane}
+use Rattle.kind.specs.Post.{Tells, Lists}
 use Rattle.kind.proofs.Memory.{Header, same-header, written, is-on, refuses, renumbered, turned, followed, followed-out, any-waiting, Sane, is-sane, formed-queue, malformed}
 use Rattle.kind.proofs.Picks.{any-map}
 
@@ -31,20 +31,12 @@ pub length-line : (e : List ℕ) (n : ℕ) → length (map ident (waiting e n)) 
 length-line e n = length-map (waiting e n) ident
 
 module _ {N : Type 0} (L : Layout N) (f : N → List ℕ → Out N) (h e : List ℕ) where
-  -- f was done, and who it woke, if anybody, was told in a word
-  abbrev pub Tells : ℕ → ℤ → List ℕ → ℕ → Type 0
-  Tells w r h' w' = Does L f h e r h' e × Told (on L f h e .turn .woken) w w'
-
-  -- f was done, and all that it woke were listed
-  abbrev pub Lists : List ℕ → ℤ → List ℕ → List ℕ → Type 0
-  Lists out r h' out' = Does L f h e r h' e × Listed (on L f h e .turn .woken) out out'
-
   -- a refusal wakes nobody
   module _ (k : ℕ) (o : on L f h e ≡ refused (negsuc k) (L .num h) (waiting e (getD h (L .len) 0))) where
-    pub silent : (w : ℕ) → Tells w (negsuc k) h w
+    pub silent : (w : ℕ) → Tells L f h e w (negsuc k) h w
     silent w = (refuses L f h e k o, rw o refl)
 
-    pub unlisted : (out : List ℕ) → Lists out (negsuc k) h out
+    pub unlisted : (out : List ℕ) → Lists L f h e out (negsuc k) h out
     unlisted out = (refuses L f h e k o, rw o refl)
 
 -- a call by the caller w
@@ -104,12 +96,11 @@ module _ (K : Kind) (L : Layout (K .Num)) (v : ℕ → K .Wish) (w : Caller) (k 
       first (suc m) n u a b o = rw o
 
       pub wakes : (n : K .Num) (u : ℤ) (r : ℕ) (h' : List ℕ) (a : ℤ) (m x x' : ℕ) → verdict ≡ allow n (wake (upTo 1) (λ t. u)) (pos r) → 0 < getD h (L .len) 0
-          → queue.Does (unpendFirst u) (getD h (L .len) 0) e a m e → Told (at (unpendFirst u) (getD h (L .len) 0) e .woken) x x' → Header L h n m h'
-          → Tells L (call K v w k) h e x (pos r) h' x'
-      wakes n u r h' a m x x' y b d t p =
+          → UnpendsFirst u (getD h (L .len) 0) e x a m x' → Header L h n m h' → Tells L (call K v w k) h e x (pos r) h' x'
+      wakes n u r h' a m x x' y b d p =
           let o = carries (allow n (wake (upTo 1) (λ t. u)) (pos r)) y ∙ first (getD h (L .len) 0) n u (pos r) b (whole .housed .room) in (
-            turned L (call K v w k) h e (unpendFirst u) n r a m h' e (whole .housed) o d p,
-            rw (is-on L (call K v w k) h e (whole .housed) ∙ o) t,
+            turned L (call K v w k) h e (unpendFirst u) n r a m h' e (whole .housed) o (d .0) p,
+            rw (is-on L (call K v w k) h e (whole .housed) ∙ o) (d .1),
           )
 
       -- to a list: if there is room for it
@@ -126,15 +117,14 @@ module _ (K : Kind) (L : Layout (K .Num)) (v : ℕ → K .Wish) (w : Caller) (k 
             unlisted L (handed (length out) (call K v w k)) h e 21
             (is-on L (handed (length out) (call K v w k)) h e (whole .housed) ∙ rw (lone, lt-leb 1 (length out) c)) out
 
-        pub wakes-one : (h' : List ℕ) (a : ℤ) (m x' : ℕ) → 1 ≤ length out → queue.Does (unpendFirst u) (getD h (L .len) 0) e a m e
-            → Told (at (unpendFirst u) (getD h (L .len) 0) e .woken) (getD out 0 0) x' → Header L h n m h'
+        pub wakes-one : (h' : List ℕ) (a : ℤ) (m x' : ℕ) → 1 ≤ length out → UnpendsFirst u (getD h (L .len) 0) e (getD out 0 0) a m x' → Header L h n m h'
             → Lists L (handed (length out) (call K v w k)) h e out (pos r) h' (set out 0 x')
-        wakes-one h' a m x' c d t p =
+        wakes-one h' a m x' c d p =
             let o = carries (allow n (wake (upTo 1) (λ t. u)) (pos r)) y ∙ first (getD h (L .len) 0) n u (pos r) b (whole .housed .room) in
             let q : handed (length out) (call K v w k) (L .num h) (waiting e (getD h (L .len) 0)) ≡ call K v w k (L .num h) (waiting e (getD h (L .len) 0)) =
             rw (lone, le-leb 1 (length out) c) in (
-              turned L (handed (length out) (call K v w k)) h e (unpendFirst u) n r a m h' e (whole .housed) (q ∙ o) d p,
-              rw (is-on L (handed (length out) (call K v w k)) h e (whole .housed) ∙ q ∙ o) (put (getD h (L .len) 0) b (whole .housed .room) out c t),
+              turned L (handed (length out) (call K v w k)) h e (unpendFirst u) n r a m h' e (whole .housed) (q ∙ o) (d .0) p,
+              rw (is-on L (handed (length out) (call K v w k)) h e (whole .housed) ∙ q ∙ o) (put (getD h (L .len) 0) b (whole .housed .room) out c (d .1)),
             )
           where
             put : (m : ℕ) → 0 < m → roomy m e ≡ true → (l : List ℕ) → 1 ≤ length l → Told (at (unpendFirst u) m e .woken) (getD l 0 0) x'
@@ -164,10 +154,8 @@ module _ (K : Kind) (L : Layout (K .Num)) (v : ℕ → K .Wish) (w : Caller) (k 
             (is-on L (handed (length out) (call K v w k)) h e (whole .housed) ∙ rw (many, lt-leb (getD h (L .len) 0) (length out) b)) out
 
         pub wakes-all : (h' : List ℕ) (a : ℤ) (m : ℕ) (out' : List ℕ) → getD h (L .len) 0 ≤ length out
-            → queue.Does (unpendAll u (length out)) (getD h (L .len) 0) e a m e
-            → Listed (at (unpendAll u (length out)) (getD h (L .len) 0) e .woken) out out' → Header L h n m h'
-            → Lists L (handed (length out) (call K v w k)) h e out a h' out'
-        wakes-all h' a m out' b d t p =
+            → UnpendsAll u (getD h (L .len) 0) e out a m out' → Header L h n m h' → Lists L (handed (length out) (call K v w k)) h e out a h' out'
+        wakes-all h' a m out' b d p =
             let l = back-length e (getD h (L .len) 0) in
             let g : at (unpendAll u (length out)) (getD h (L .len) 0) e ≡ all .turn = rw (whole .housed .room, l, le-leb (getD h (L .len) 0) (length out) b) in
             let o : handed (length out) (call K v w k) (L .num h) (waiting e (getD h (L .len) 0))
@@ -180,29 +168,28 @@ module _ (K : Kind) (L : Layout (K .Num)) (v : ℕ → K .Wish) (w : Caller) (k 
                     woken = at (unpendAll u (length out)) (getD h (L .len) 0) e .woken;
                   };
             } = rw (many, le-leb (getD h (L .len) 0) (length out) b) (everyone ∙ rw g) in
-            let c : a ≡ pos (length (waiting e (getD h (L .len) 0))) = d .code ∙ ap (λ (t : Turn). t .code) g in
+            let c : a ≡ pos (length (waiting e (getD h (L .len) 0))) = d .0 .code ∙ ap (λ (t : Turn). t .code) g in
             rw c (
-              turned L (handed (length out) (call K v w k)) h e (unpendAll u (length out)) n (length (waiting e (getD h (L .len) 0))) a m h' e (whole .housed) o d p,
-              rw (is-on L (handed (length out) (call K v w k)) h e (whole .housed) ∙ o) t,
+              turned L (handed (length out) (call K v w k)) h e (unpendAll u (length out)) n (length (waiting e (getD h (L .len) 0))) a m h' e (whole .housed) o (d .0) p,
+              rw (is-on L (handed (length out) (call K v w k)) h e (whole .housed) ∙ o) (d .1),
             )
 
       -- where no number changes, the queue's own answer is the object's
       pub wakes-everybody : (u : ℤ) → verdict ≡ allow (L .num h) (wake everybody (λ t. u)) (pos (length (waiting e (getD h (L .len) 0)))) → L .len < L .words
-          → (a : ℤ) (m : ℕ) (out out' : List ℕ) → queue.Does (unpendAll u (length out)) (getD h (L .len) 0) e a m e
-          → Listed (at (unpendAll u (length out)) (getD h (L .len) 0) e .woken) out out' → L .num (set h (L .len) m) ≡ L .num h
+          → (a : ℤ) (m : ℕ) (out out' : List ℕ) → UnpendsAll u (getD h (L .len) 0) e out a m out' → L .num (set h (L .len) m) ≡ L .num h
           → Lists L (handed (length out) (call K v w k)) h e out a (set h (L .len) m) out'
-      wakes-everybody u y b a m out out' d t x = go (leb (getD h (L .len) 0) (length out)) refl
+      wakes-everybody u y b a m out out' d x = go (leb (getD h (L .len) 0) (length out)) refl
         where
           go : (c : Bool) → leb (getD h (L .len) 0) (length out) ≡ c → Lists L (handed (length out) (call K v w k)) h e out a (set h (L .len) m) out'
           go true z =
-              wakes-all (L .num h) u y out (set h (L .len) m) a m out' (leb-true (getD h (L .len) 0) (length out) z) d t
+              wakes-all (L .num h) u y out (set h (L .len) m) a m out' (leb-true (getD h (L .len) 0) (length out) z) d
               (written L h (L .len) m (same-header L h) b x (getD-set-same h (L .len) m 0 (omega (arith, whole .housed .words))))
           go false z =
               let l = back-length e (getD h (L .len) 0) in
               let g : at (unpendAll u (length out)) (getD h (L .len) 0) e ≡ refuse einval (waiting e (getD h (L .len) 0)) = rw (whole .housed .room, l, z) in
-              let c : a ≡ einval = d .code ∙ ap (λ (t : Turn). t .code) g in
-              let j : (m ≡ getD h (L .len) 0) × (e ≡ e) = rw c at (d .kept) in
-              let i : out' ≡ out = rw g at t in
+              let c : a ≡ einval = d .0 .code ∙ ap (λ (t : Turn). t .code) g in
+              let j : (m ≡ getD h (L .len) 0) × (e ≡ e) = rw c at (d .0 .kept) in
+              let i : out' ≡ out = rw g at (d .1) in
               rw (c, j .0, i, set-getD h (L .len) 0) (no-place (L .num h) u y out (leb-false (getD h (L .len) 0) (length out) z))
 
 pub handed-no : (K : Kind) (v : ℕ → K .Wish) (w : Caller) (k : K .Call) (room : ℕ) (n : K .Num) (q : List ℕ) → K .formed n (any q) ≡ false
@@ -228,7 +215,7 @@ module _ (K : Kind) (L : Layout (K .Num)) (v : ℕ → K .Wish) (i p st : ℕ) (
   -- whatever the queue answers
   pub waits-now : (x : K .Wish) (a r : ℤ) (m : ℕ) (e' : List ℕ) → L .len < L .words → L .words ≤ length h
       → K .formed (L .num h) (ltb 0 (getD h (L .len) 0)) ≡ true → verdict K L v (thread i p st) k h e ≡ allow (L .num h) (park x) a
-      → queue.Does (pend i p st) (getD h (L .len) 0) e r m e' → L .num (set h (L .len) m) ≡ L .num h
+      → Pends i p st (getD h (L .len) 0) e r m e' → L .num (set h (L .len) m) ≡ L .num h
       → Does L (call K v (thread i p st) k) h e r (set h (L .len) m) e'
   waits-now x a r m e' b s f y d u = go (roomy (getD h (L .len) 0) e) refl
     where

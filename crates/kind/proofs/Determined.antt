@@ -11,10 +11,10 @@ use Rattle.seq.proofs.Back.{back-length}
 use Rattle.seq.proofs.Only.{said, and, exactly, alike-only}
 use Rattle.thread.specs.Code.{ok, einval}
 use Rattle.wait_queue.specs.Queue.{waiting}
-use Rattle.wait_queue.specs.Post.{Told, Listed}
 use Rattle.wait_queue.proofs.Determined.{queue-only, told-only}
 use Rattle.kind.specs.Kind.{Kind}
 use Rattle.kind.specs.Object.{Out, Layout, on, Does, Started, Audited}
+use Rattle.kind.specs.Post.{Tells, Lists}
 use Rattle.kind.specs.Determined.{Faithful, Determined}
 
 -- the answer, the header and the entries
@@ -43,12 +43,12 @@ module _ {N : Type 0} (L : Layout N) (f : N → List ℕ → Out N) (h e : List 
     reads-only x y m k = let q = does-only (x .0, x .1, e) (y .0, y .1, e) m k in λ i. (q i .0, q i .1)
 
     -- and a woken thread is told
-    pub tells-only : (w : ℕ) → Only (λ ((r, h', w') : ℤ × List ℕ × ℕ). Does L f h e r h' e × Told (on L f h e .turn .woken) w w')
-    tells-only w = and (λ r h'. Does L f h e r h' e) (Told (on L f h e .turn .woken) w) reads-only (told-only (on L f h e .turn .woken) w)
+    pub tells-only : (w : ℕ) → Only (λ ((r, h', w') : ℤ × List ℕ × ℕ). Tells L f h e w r h' w')
+    tells-only w = and _ _ reads-only (told-only (on L f h e .turn .woken) w)
 
     -- or all of them
-    pub lists-only : (o : List ℕ) → Only (λ ((r, h', o') : Outcome). Does L f h e r h' e × Listed (on L f h e .turn .woken) o o')
-    lists-only o = and (λ r h'. Does L f h e r h' e) (Listed (on L f h e .turn .woken) o) reads-only (said _)
+    pub lists-only : (o : List ℕ) → Only (λ ((r, h', o') : Outcome). Lists L f h e o r h' o')
+    lists-only o = and _ _ reads-only (said _)
 
 -- a new object
 module _ (K : Kind) (L : Layout (K .Num)) (n : K .Num) (h : List ℕ) where
@@ -85,4 +85,4 @@ pub audited-only : (K : Kind) (L : Layout (K .Num)) (h e : List ℕ) → Only (�
 audited-only K L h e x y m k = exactly x y (m .sound) (m .complete) (k .sound) (k .complete)
 
 pub determined : Determined
-determined = record { housed = λ h words e. said _ }
+determined = record { housed = λ words h e. said _ }

@@ -222,7 +222,7 @@ module _ (K : Kind) (L : Layout (K .Num)) (h e : List ℕ) where
   pub audit-insane : sane K L h e ≡ false → Audited K L h e false
   audit-insane s = record { sound = λ z. clash (sym z); complete = λ w. clash (sym (w .0) ∙ s) }
 
-  pub audit-queue : (r : Bool) → sane K L h e ≡ true → queue.Audited (getD h (L .len) 0) e r → Audited K L h e r
+  pub audit-queue : (r : Bool) → sane K L h e ≡ true → queue.Audits (getD h (L .len) 0) e r → Audited K L h e r
   audit-queue r s a =
       record {
         sound = λ z. (s, a .sound z .1);

@@ -22,8 +22,9 @@ use Rattle.kind.specs.Verdict.{upTo, keep, wake, Verdict, deny, allow}
 use Rattle.kind.specs.Kind.{plain}
 use Rattle.kind.specs.Object as object
 use Rattle.kind.specs.Object.{refused, named, carried, on, Does, sized, sane}
+use Rattle.kind.specs.Post.{Tells}
 use Rattle.kind.proofs.Memory.{Housed, Header, is-on, alike, refuses, renumbered, turned, is-sane, unsized, sized-words, misnumbered, idle-sane, roomy-sane}
-use Rattle.kind.proofs.Answers.{Tells, silent, verdict, call-no, call-barred, call-is, call-denied, keeps, waits-now, unseen, seen, start-short, start-made}
+use Rattle.kind.proofs.Answers.{silent, verdict, call-no, call-barred, call-is, call-denied, keeps, waits-now, unseen, seen, start-short, start-made}
 use Rattle.mutex.specs.Mutex.{nobody, Mutex, lock, tryLock, unlock, release, formed, maxCount, released, unlocked, transferred, free, taken, counting, passes, mutex-kind}
 use Rattle.mutex.specs.Post.{ownerIn, layout, tryLockOut, unlockOut, lockOut, passOut, releaseOut, getOut, isLocked, ownerId, apart, Starts, Audited, unlockDeed, LockDecided, UnlockDecided}
 use Rattle.mutex.proofs.Law.{mk, free-fine, free-empty}
@@ -328,10 +329,10 @@ module _ (h e : List ℕ) where
   audit-no s = record { sound = λ z. clash (sym z); complete = λ w. clash (sym (w .0) ∙ s) }
 
   module _ (s : sane mutex-kind layout h e ≡ true) where
-    pub audit-bad : queue.Audited (getD h 3 0) e false → Audited h e false
+    pub audit-bad : queue.Audits (getD h 3 0) e false → Audited h e false
     audit-bad a = record { sound = λ z. clash (sym z); complete = λ w. a .complete (is-sane mutex-kind layout h e s .housed .room, w .1) }
 
-    module _ (a : queue.Audited (getD h 3 0) e true) (r : Bool) (g : apart (layout .num h .owner) (waiting e (getD h 3 0)) ≡ r) where
+    module _ (a : queue.Audits (getD h 3 0) e true) (r : Bool) (g : apart (layout .num h .owner) (waiting e (getD h 3 0)) ≡ r) where
       pub audit-owner : Audited h e r
       audit-owner = record { sound = λ z. (s, a .sound refl .1, g ∙ z); complete = λ w. sym g ∙ w .2 }
 

@@ -14,16 +14,14 @@ use Rattle.seq.specs.List.{any}
 use Rattle.thread.specs.Code.{ok, eagain, ebusy, einval}
 use Rattle.thread.specs.Caller.{callerCode}
 use Rattle.wait_queue.specs.Queue.{ident, waiting}
-use Rattle.wait_queue.specs.Turn.{at, pend, unpendFirst, unpendAll}
-use Rattle.wait_queue.specs.Post.{Told, Listed}
-use Rattle.wait_queue.specs.Post as queue
+use Rattle.wait_queue.specs.Post.{Pends, UnpendsFirst, UnpendsAll}
 use Rattle.kind.specs.Verdict.{everybody, wake, allow}
 use Rattle.kind.specs.Kind.{plain}
-use Rattle.kind.specs.Object.{anyone, thread, on, Does, sized, sane}
+use Rattle.kind.specs.Object.{anyone, thread, on, sized, sane}
 use Rattle.kind.proofs.Memory.{Header, same-header, written, refuses, is-sane, malformed, unsized, sized-words, misnumbered, idle-sane}
-use Rattle.kind.proofs.Answers.{any-line, length-line, Tells, Lists, silent, unlisted, verdict, call-no, call-barred, call-denied, keeps, wakes, no-place, wakes-all, handed-no, waits-now, unseen, seen, start-short, start-bad, start-made}
+use Rattle.kind.proofs.Answers.{any-line, length-line, silent, unlisted, verdict, call-no, call-barred, call-denied, keeps, wakes, no-place, wakes-all, handed-no, waits-now, unseen, seen, start-short, start-bad, start-made}
 use Rattle.sem.specs.Sem.{Sem, give, take, tryTake, reset, formed, counting, woke, incremented, saturated, sem-kind}
-use Rattle.sem.specs.Post.{layout, giveOut, tryTakeOut, takeOut, resetOut, getOut, Starts, GiveDecided, TakeDecided}
+use Rattle.sem.specs.Post.{layout, giveOut, tryTakeOut, takeOut, resetOut, getOut, Starts, Gives, TriesTake, Takes, Resets, GiveDecided, TakeDecided}
 use Rattle.sem.proofs.Law.{mk, Fine, is-fine, fine-is, idle, mixed, no-limit, over}
 
 -- on plain numbers
@@ -102,22 +100,16 @@ module _ (h : List ℕ) where
       written layout h 2 0 (written layout h 1 l (counted c k) (omega arith) n refl) (omega arith) (rw (u, v, b, d, a)) (getD-set-same (set (set h 0 c) 1 l) 2 0 0 (omega arith))
 
 module _ (h e : List ℕ) where
-  abbrev pub Gave : ℕ → ℤ → List ℕ → ℕ → Type 0
-  Gave = Tells layout giveOut h e
-
-  pub gave-no : (w : ℕ) → sane sem-kind layout h e ≡ false → Gave w einval h w
+  pub gave-no : (w : ℕ) → sane sem-kind layout h e ≡ false → Gives h e w einval h w
   gave-no w s = silent layout giveOut h e 21 (call-no sem-kind layout plain anyone give h e s) w
 
-  pub tried-no : sane sem-kind layout h e ≡ false → Does layout tryTakeOut h e einval h e
+  pub tried-no : sane sem-kind layout h e ≡ false → TriesTake h e einval h
   tried-no s = refuses layout tryTakeOut h e 21 (call-no sem-kind layout plain anyone tryTake h e s)
 
-  pub took-no : (i p st : ℕ) → sane sem-kind layout h e ≡ false → Does layout (takeOut i p st) h e einval h e
+  pub took-no : (i p st : ℕ) → sane sem-kind layout h e ≡ false → Takes i p st h e einval h e
   took-no i p st s = refuses layout (takeOut i p st) h e 21 (call-no sem-kind layout plain (thread i p st) take h e s)
 
-  abbrev pub Cleared : List ℕ → ℤ → List ℕ → List ℕ → Type 0
-  Cleared out = Lists layout (resetOut (length out)) h e out
-
-  pub cleared-no : (out : List ℕ) → sane sem-kind layout h e ≡ false → Cleared out einval h out
+  pub cleared-no : (out : List ℕ) → sane sem-kind layout h e ≡ false → Resets h e out einval h out
   cleared-no out s =
       unlisted layout (resetOut (length out)) h e 21
       (malformed sem-kind layout h e (resetOut (length out)) (handed-no sem-kind plain anyone reset (length out)) s) out
@@ -132,41 +124,40 @@ module _ (h e : List ℕ) where
     pub limit-fine : Fine (getD h 0 0) (getD h 1 0) (ltb 0 (getD h 2 0))
     limit-fine = is-fine (getD h 0 0) (getD h 1 0) (ltb 0 (getD h 2 0)) (is-sane sem-kind layout h e s .numbers)
 
-    pub gave-woke : (w w' : ℕ) (r : ℤ) (k : ℕ) → 0 < getD h 2 0 → queue.Does (unpendFirst ok) (getD h 2 0) e r k e
-        → Told (at (unpendFirst ok) (getD h 2 0) e .woken) w w' → Gave w woke (set h 2 k) w'
-    gave-woke w w' r k z d t =
-        wakes sem-kind layout plain anyone give h e s 0 refl (layout .num h) ok 0 (set h 2 k) r k w w' (rw (any-line e (getD h 2 0), lt-ltb 0 (getD h 2 0) z)) z d t
+    pub gave-woke : (w w' : ℕ) (r : ℤ) (k : ℕ) → 0 < getD h 2 0 → UnpendsFirst ok (getD h 2 0) e w r k w' → Gives h e w woke (set h 2 k) w'
+    gave-woke w w' r k z d =
+        wakes sem-kind layout plain anyone give h e s 0 refl (layout .num h) ok 0 (set h 2 k) r k w w' (rw (any-line e (getD h 2 0), lt-ltb 0 (getD h 2 0) z)) z d
         (fewer h k words)
 
     alone : getD h 2 0 ≡ 0 → any (map ident (waiting e (getD h 2 0))) ≡ false
     alone z = rw (any-line e (getD h 2 0), z) refl
 
-    pub gave-count : (w : ℕ) → getD h 2 0 ≡ 0 → getD h 0 0 < getD h 1 0 → Gave w incremented (set h 0 (getD h 0 0 + 1)) w
+    pub gave-count : (w : ℕ) → getD h 2 0 ≡ 0 → getD h 0 0 < getD h 1 0 → Gives h e w incremented (set h 0 (getD h 0 0 + 1)) w
     gave-count w z k =
         rw add-one
         (keeps sem-kind layout plain anyone give h e s 0 refl (counting (suc (getD h 0 0)) (layout .num h)) 1 (set h 0 (suc (getD h 0 0))) w
         (rw (alone z, lt-ltb (getD h 0 0) (getD h 1 0) k)) (counted h (suc (getD h 0 0)) words))
 
-    pub gave-full : (w : ℕ) → getD h 2 0 ≡ 0 → getD h 1 0 ≤ getD h 0 0 → Gave w saturated h w
+    pub gave-full : (w : ℕ) → getD h 2 0 ≡ 0 → getD h 1 0 ≤ getD h 0 0 → Gives h e w saturated h w
     gave-full w z k =
         keeps sem-kind layout plain anyone give h e s 0 refl (layout .num h) 2 h w (rw (alone z, le-ltb (getD h 0 0) (getD h 1 0) k)) (same-header layout h)
 
-    pub tried-one : 0 < getD h 0 0 → Does layout tryTakeOut h e ok (set h 0 (getD h 0 0 - 1)) e
+    pub tried-one : 0 < getD h 0 0 → TriesTake h e ok (set h 0 (getD h 0 0 - 1))
     tried-one k =
         keeps sem-kind layout plain anyone tryTake h e s 0 refl (counting (getD h 0 0 - 1) (layout .num h)) 0 (set h 0 (getD h 0 0 - 1)) 0 (rw (lt-ltb 0 (getD h 0 0) k))
         (counted h (getD h 0 0 - 1) words)
         .0
 
-    pub tried-busy : getD h 0 0 ≡ 0 → Does layout tryTakeOut h e ebusy h e
+    pub tried-busy : getD h 0 0 ≡ 0 → TriesTake h e ebusy h
     tried-busy k =
         let z : getD h 0 0 ≤ 0 = omega arith in
         refuses layout tryTakeOut h e 15 (call-denied sem-kind layout plain anyone tryTake h e s 0 refl 15 (rw (le-ltb 0 (getD h 0 0) z)))
 
     module _ (i p st : ℕ) where
-      pub took-caller : (k : ℕ) → callerCode p st ≡ negsuc k → Does layout (takeOut i p st) h e (negsuc k) h e
+      pub took-caller : (k : ℕ) → callerCode p st ≡ negsuc k → Takes i p st h e (negsuc k) h e
       took-caller k z = refuses layout (takeOut i p st) h e k (call-barred sem-kind layout plain (thread i p st) take h e s k z)
 
-      pub took-one : (k : ℕ) → callerCode p st ≡ pos k → 0 < getD h 0 0 → Does layout (takeOut i p st) h e ok (set h 0 (getD h 0 0 - 1)) e
+      pub took-one : (k : ℕ) → callerCode p st ≡ pos k → 0 < getD h 0 0 → Takes i p st h e ok (set h 0 (getD h 0 0 - 1)) e
       took-one k z y =
           keeps sem-kind layout plain (thread i p st) take h e s k z (counting (getD h 0 0 - 1) (layout .num h)) 0 (set h 0 (getD h 0 0 - 1)) 0 (rw (lt-ltb 0 (getD h 0 0) y))
           (counted h (getD h 0 0 - 1) words)
@@ -176,13 +167,13 @@ module _ (h e : List ℕ) where
       resets : verdict sem-kind layout plain anyone reset h e ≡ allow (counting 0 (layout .num h)) (wake everybody (λ t. eagain)) (pos (length (waiting e (getD h 2 0))))
       resets = rw (length-line e (getD h 2 0))
 
-      pub cleared-short : length out < getD h 2 0 → Cleared out einval h out
+      pub cleared-short : length out < getD h 2 0 → Resets h e out einval h out
       cleared-short z = no-place sem-kind layout plain anyone reset h e s 0 refl (counting 0 (layout .num h)) eagain resets out z
 
-      pub cleared-all : (r : ℤ) (k : ℕ) (out' : List ℕ) → getD h 2 0 ≤ length out → queue.Does (unpendAll eagain (length out)) (getD h 2 0) e r k e
-          → Listed (at (unpendAll eagain (length out)) (getD h 2 0) e .woken) out out' → Cleared out r (set (set h 0 0) 2 k) out'
-      cleared-all r k out' z d t =
-          wakes-all sem-kind layout plain anyone reset h e s 0 refl (counting 0 (layout .num h)) eagain resets out (set (set h 0 0) 2 k) r k out' z d t (cleared h k words)
+      pub cleared-all : (r : ℤ) (k : ℕ) (out' : List ℕ) → getD h 2 0 ≤ length out → UnpendsAll eagain (getD h 2 0) e out r k out'
+          → Resets h e out r (set (set h 0 0) 2 k) out'
+      cleared-all r k out' z d =
+          wakes-all sem-kind layout plain anyone reset h e s 0 refl (counting 0 (layout .num h)) eagain resets out (set (set h 0 0) 2 k) r k out' z d (cleared h k words)
 
     pub got : (g : Sem → List ℕ → ℕ) → pos (g (layout .num h) (waiting e (getD h 2 0))) ≡ on layout (getOut g) h e .turn .code
     got g = seen sem-kind layout (λ n q. pos (g n q)) h e s
@@ -209,8 +200,8 @@ module _ (h e : List ℕ) where
     idle-yes n k m = idle-sane sem-kind layout h e z n (idle (getD h 0 0) (getD h 1 0) k m)
 
     -- the thread waits, whatever the queue says
-    pub took-turn : (i p st : ℕ) → getD h 0 0 ≡ 0 → 0 < getD h 1 0 → (r : ℤ) (m : ℕ) (e' : List ℕ) → queue.Does (pend i p st) (getD h 2 0) e r m e'
-        → Does layout (takeOut i p st) h e r (set h 2 m) e'
+    pub took-turn : (i p st : ℕ) → getD h 0 0 ≡ 0 → 0 < getD h 1 0 → (r : ℤ) (m : ℕ) (e' : List ℕ) → Pends i p st (getD h 2 0) e r m e'
+        → Takes i p st h e r (set h 2 m) e'
     took-turn i p st y k r m e' d =
         let c : getD h 0 0 ≤ 0 = omega arith in
         waits-now sem-kind layout plain i p st take h e tt (pos 1) r m e' (omega arith) its-words

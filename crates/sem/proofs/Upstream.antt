@@ -19,12 +19,12 @@ use Rattle.wait_queue.specs.Queue.{maxWaiters, entry, prio, ident, woken, waiti
 use Rattle.wait_queue.specs.Turn.{waits}
 use Rattle.wait_queue.proofs.Answers.{ident-entry}
 use Rattle.kind.specs.Kind.{plain}
-use Rattle.kind.specs.Object.{Out, anyone, call, on, Does, sane}
+use Rattle.kind.specs.Object.{Out, anyone, call, on, sane}
 use Rattle.kind.specs.History.{Event, calls, asks, happens, Good, Lasting}
 use Rattle.kind.proofs.Memory.{Housed, is-on, malformed, shown, barred}
 use Rattle.kind.proofs.Histories.{always, step}
 use Rattle.sem.specs.Sem.{Sem, Call, give, take, tryTake, reset, formed, sem-kind}
-use Rattle.sem.specs.Post.{layout, giveOut, tryTakeOut, takeOut, resetOut, getOut, Starts, GiveDecided, TakeDecided}
+use Rattle.sem.specs.Post.{layout, giveOut, tryTakeOut, takeOut, resetOut, getOut, Starts, Gives, TriesTake, Takes, Resets, GetsCount, GetsLimit, CountsWaiters, GiveDecided, TakeDecided}
 use Rattle.sem.specs.Upstream.{Inv, Idle, GiveDecide, TakeDecide, Init, Give, TryTake, TakeBlocking, Reset, CountGet, LimitGet, NumWaiters}
 use Rattle.sem.specs.History.{fresh, after}
 use Rattle.sem.proofs.Law.{mk, Fine, is-fine, fine-is, idle, sem-lawful}
@@ -212,52 +212,54 @@ module _ (c l : ℕ) (q : List ℕ) (i : Inv (mk c l) q) (z : Idle (mk c l) q) w
       })
 
 -- the functions on memory
-module _ (h e : List ℕ) (r : ℤ) (h' e' : List ℕ) (m : Housed layout h e) (i : Inv (layout .num h) (waiting e (getD h 2 0))) (z : Idle (layout .num h) (waiting e (getD h 2 0))) where
-  pub sem-give : Does layout giveOut h e r h' e' → Give (layout .num h) (waiting e (getD h 2 0)) r (layout .num h') (waiting e' (getD h' 2 0))
-  sem-give d = shown layout giveOut (Give (layout .num h) (waiting e (getD h 2 0))) h e r h' e' d m (gives (getD h 0 0) (getD h 1 0) (waiting e (getD h 2 0)) i z)
+module _ (h e : List ℕ) (r : ℤ) (h' : List ℕ) (m : Housed layout h e) (i : Inv (layout .num h) (waiting e (getD h 2 0))) (z : Idle (layout .num h) (waiting e (getD h 2 0))) where
+  pub sem-give : (w w' : ℕ) → Gives h e w r h' w' → Give (layout .num h) (waiting e (getD h 2 0)) r (layout .num h') (waiting e (getD h' 2 0))
+  sem-give w w' d = shown layout giveOut (Give (layout .num h) (waiting e (getD h 2 0))) h e r h' e (d .0) m (gives (getD h 0 0) (getD h 1 0) (waiting e (getD h 2 0)) i z)
 
-  pub sem-try-take : Does layout tryTakeOut h e r h' e' → TryTake (layout .num h) (waiting e (getD h 2 0)) r (layout .num h') (waiting e' (getD h' 2 0))
-  sem-try-take d = shown layout tryTakeOut (TryTake (layout .num h) (waiting e (getD h 2 0))) h e r h' e' d m (tries (getD h 0 0) (getD h 1 0) (waiting e (getD h 2 0)) i z)
+  pub sem-try-take : TriesTake h e r h' → TryTake (layout .num h) (waiting e (getD h 2 0)) r (layout .num h') (waiting e (getD h' 2 0))
+  sem-try-take d = shown layout tryTakeOut (TryTake (layout .num h) (waiting e (getD h 2 0))) h e r h' e d m (tries (getD h 0 0) (getD h 1 0) (waiting e (getD h 2 0)) i z)
 
-  pub sem-take-blocking : (j p : ℕ) → j < 4294967296 → p < maxPriority → getD h 0 0 ≡ 0 → length (waiting e (getD h 2 0)) < maxWaiters → holds j (waiting e (getD h 2 0)) ≡ false
-      → Does layout (takeOut j p running) h e r h' e' → TakeBlocking (layout .num h) (waiting e (getD h 2 0)) r (layout .num h') (waiting e' (getD h' 2 0))
-  sem-take-blocking j p s v n w a d =
+  pub sem-take-blocking : (j p : ℕ) (e' : List ℕ) → j < 4294967296 → p < maxPriority → getD h 0 0 ≡ 0 → length (waiting e (getD h 2 0)) < maxWaiters → holds j (waiting e (getD h 2 0)) ≡ false
+      → Takes j p running h e r h' e' → TakeBlocking (layout .num h) (waiting e (getD h 2 0)) r (layout .num h') (waiting e' (getD h' 2 0))
+  sem-take-blocking j p e' s v n w a d =
       shown layout (takeOut j p running) (TakeBlocking (layout .num h) (waiting e (getD h 2 0))) h e r h' e' d m
       (blocks (getD h 0 0) (getD h 1 0) (waiting e (getD h 2 0)) i z j p s v n w a)
 
-  pub sem-reset : (room : ℕ) → length (waiting e (getD h 2 0)) ≤ room → Does layout (resetOut room) h e r h' e'
-      → Reset (layout .num h) (waiting e (getD h 2 0)) r (layout .num h') (waiting e' (getD h' 2 0))
-  sem-reset room k d =
-      shown layout (resetOut room) (Reset (layout .num h) (waiting e (getD h 2 0))) h e r h' e' d m (resets (getD h 0 0) (getD h 1 0) (waiting e (getD h 2 0)) i z room k)
+  pub sem-reset : (out out' : List ℕ) → length (waiting e (getD h 2 0)) ≤ length out → Resets h e out r h' out'
+      → Reset (layout .num h) (waiting e (getD h 2 0)) r (layout .num h') (waiting e (getD h' 2 0))
+  sem-reset out out' k d =
+      shown layout (resetOut (length out)) (Reset (layout .num h) (waiting e (getD h 2 0))) h e r h' e (d .0) m
+      (resets (getD h 0 0) (getD h 1 0) (waiting e (getD h 2 0)) i z (length out) k)
 
   gets : (g : Sem → List ℕ → ℕ) → r ≡ on layout (getOut g) h e .turn .code → r ≡ pos (g (layout .num h) (waiting e (getD h 2 0)))
   gets g d = d ∙ rw (is-on layout (getOut g) h e m, form (getD h 0 0) (getD h 1 0) (waiting e (getD h 2 0)) i z)
 
-  pub count-get : r ≡ on layout (getOut (λ s q. s .count)) h e .turn .code → CountGet (layout .num h) r
+  pub count-get : GetsCount h e r → CountGet (layout .num h) r
   count-get d = record { result = getD h 0 0; is = gets (λ s q. s .count) d; counted = refl; under = i .under }
 
-  pub limit-get : r ≡ on layout (getOut (λ s q. s .limit)) h e .turn .code → LimitGet (layout .num h) r
+  pub limit-get : GetsLimit h e r → LimitGet (layout .num h) r
   limit-get d = record { result = getD h 1 0; is = gets (λ s q. s .limit) d; limited = refl; above = i .limited }
 
-  pub num-waiters : r ≡ on layout (getOut (λ s q. length q)) h e .turn .code → NumWaiters (waiting e (getD h 2 0)) r
+  pub num-waiters : CountsWaiters h e r → NumWaiters (waiting e (getD h 2 0)) r
   num-waiters d = gets (λ s q. length q) d
 
 -- what upstream demands is refused here: a header that is not as it should be
-module _ (h e : List ℕ) (r : ℤ) (h' e' : List ℕ) (s : sane sem-kind layout h e ≡ false) where
-  abbrev Stays : Type 0
-  Stays = (r ≡ einval) × (h' ≡ h) × (e' ≡ e)
+module _ (h e : List ℕ) (r : ℤ) (h' : List ℕ) (s : sane sem-kind layout h e ≡ false) where
+  abbrev Stays : List ℕ → Type 0
+  Stays e' = (r ≡ einval) × (h' ≡ h) × (e' ≡ e)
 
-  pub give-refuses : Does layout giveOut h e r h' e' → Stays
-  give-refuses d = barred sem-kind layout h e giveOut r h' e' (λ n q z. rw z) s d
+  pub give-refuses : (w w' : ℕ) → Gives h e w r h' w' → Stays e
+  give-refuses w w' d = barred sem-kind layout h e giveOut r h' e (λ n q z. rw z) s (d .0)
 
-  pub try-take-refuses : Does layout tryTakeOut h e r h' e' → Stays
-  try-take-refuses d = barred sem-kind layout h e tryTakeOut r h' e' (λ n q z. rw z) s d
+  pub try-take-refuses : TriesTake h e r h' → Stays e
+  try-take-refuses d = barred sem-kind layout h e tryTakeOut r h' e (λ n q z. rw z) s d
 
-  pub take-refuses : (j p st : ℕ) → Does layout (takeOut j p st) h e r h' e' → Stays
-  take-refuses j p st d = barred sem-kind layout h e (takeOut j p st) r h' e' (λ n q z. rw z) s d
+  pub take-refuses : (j p st : ℕ) (e' : List ℕ) → Takes j p st h e r h' e' → Stays e'
+  take-refuses j p st e' d = barred sem-kind layout h e (takeOut j p st) r h' e' (λ n q z. rw z) s d
 
-  pub reset-refuses : (room : ℕ) → Does layout (resetOut room) h e r h' e' → Stays
-  reset-refuses room d = barred sem-kind layout h e (resetOut room) r h' e' (handed-no sem-kind plain anyone reset room) s d
+  pub reset-refuses : (out out' : List ℕ) → Resets h e out r h' out' → Stays e
+  reset-refuses out out' d =
+      barred sem-kind layout h e (resetOut (length out)) r h' e (handed-no sem-kind plain anyone reset (length out)) s (d .0)
 
   pub get-refuses : (g : Sem → List ℕ → ℕ) → r ≡ on layout (getOut g) h e .turn .code → r ≡ einval
   get-refuses g d = d ∙ ap (λ (o : Out Sem). o .turn .code) (malformed sem-kind layout h e (getOut g) (λ n q z. rw z) s)

@@ -4,11 +4,12 @@ use mathlib.Core.Bool.{Bool, true, false}
 use mathlib.Core.List.{List}
 use Prim.Native.Nat.{ℕ}
 use lib.IntN.{ℤ, pos}
-use lib.ListN.{getD}
+use lib.ListN.{length, getD}
 use Rattle.seq.specs.List.{any}
 use Rattle.kind.specs.Verdict.{answer}
 use Rattle.kind.specs.Kind.{judge, plain}
-use Rattle.kind.specs.Object.{Out, anyone, thread, call, handed, looks, Layout, Started}
+use Rattle.kind.specs.Object.{Out, anyone, thread, call, handed, looks, Layout, on, Does, Started, Audited}
+use Rattle.kind.specs.Post.{Tells, Lists}
 use Rattle.sem.specs.Sem.{Sem, Call, give, take, tryTake, reset, formed, sem-kind}
 
 abbrev pub layout : Layout Sem
@@ -32,9 +33,35 @@ resetOut room = handed room (call sem-kind plain anyone reset)
 abbrev pub getOut : (Sem → List ℕ → ℕ) → Sem → List ℕ → Out Sem
 getOut f = looks sem-kind (λ s q. pos (f s q))
 
+-- The contract of each public function: its numbers, what it is lent, its answer, and what it leaves.
+
 -- a new semaphore
 abbrev pub Starts : ℕ → ℕ → List ℕ → ℤ → List ℕ → Type 0
-Starts count limit = Started sem-kind layout (record { count = count; limit = limit })
+Starts count limit h r h' = Started sem-kind layout (record { count = count; limit = limit }) h r h'
+
+abbrev pub Gives : List ℕ → List ℕ → ℕ → ℤ → List ℕ → ℕ → Type 0
+Gives h e w r h' w' = Tells layout giveOut h e w r h' w'
+
+abbrev pub TriesTake : List ℕ → List ℕ → ℤ → List ℕ → Type 0
+TriesTake h e r h' = Does layout tryTakeOut h e r h' e
+
+abbrev pub Takes : ℕ → ℕ → ℕ → List ℕ → List ℕ → ℤ → List ℕ → List ℕ → Type 0
+Takes i p st h e r h' e' = Does layout (takeOut i p st) h e r h' e'
+
+abbrev pub Resets : List ℕ → List ℕ → List ℕ → ℤ → List ℕ → List ℕ → Type 0
+Resets h e out r h' out' = Lists layout (resetOut (length out)) h e out r h' out'
+
+abbrev pub GetsCount : List ℕ → List ℕ → ℤ → Type 0
+GetsCount h e r = r ≡ on layout (getOut (λ s q. s .count)) h e .turn .code
+
+abbrev pub GetsLimit : List ℕ → List ℕ → ℤ → Type 0
+GetsLimit h e r = r ≡ on layout (getOut (λ s q. s .limit)) h e .turn .code
+
+abbrev pub CountsWaiters : List ℕ → List ℕ → ℤ → Type 0
+CountsWaiters h e r = r ≡ on layout (getOut (λ s q. length q)) h e .turn .code
+
+abbrev pub Audits : List ℕ → List ℕ → Bool → Type 0
+Audits h e r = Audited sem-kind layout h e r
 
 -- on plain numbers: what the semaphore's own definition answers for every queue that is not empty exactly if somebody waits
 abbrev pub GiveDecided : ℕ → ℕ → Bool → ℤ → Type 0

@@ -65,7 +65,7 @@ pub record Give (s : Sem) (q : List ℕ) (r : ℤ) (s' : Sem) (q' : List ℕ) : 
   pub fewer : 0 < length q → length q' ≡ length q - 1
 
 -- what give's clauses leave out is the answer, and who is woken: w is the word for the thread before the call, w' after it
-pub record Gives (s : Sem) (q : List ℕ) (w : ℕ) (r : ℤ) (s' : Sem) (q' : List ℕ) (w' : ℕ) : Type 0 where
+pub record GiveInFull (s : Sem) (q : List ℕ) (w : ℕ) (r : ℤ) (s' : Sem) (q' : List ℕ) (w' : ℕ) : Type 0 where
   -- somebody waits: the first is woken with the result 0, and no number changes
   pub wakes : 0 < length q → (r ≡ woke) × (s' ≡ s) × FirstIsWoken ok q w' q'
   -- nobody waits: one more is there, and at the limit nothing changes; the word stays as it was
@@ -101,7 +101,7 @@ pub record Reset (s : Sem) (q : List ℕ) (r : ℤ) (s' : Sem) (q' : List ℕ) :
   pub woken : r ≡ pos (length q)
 
 -- what reset's clauses leave out is who is woken: out is the room to hand them out before the call, out' after it
-pub record Resets (s : Sem) (q h e out : List ℕ) (r : ℤ) (s' : Sem) (q' h' e' out' : List ℕ) : Type 0 where
+pub record ResetInFull (s : Sem) (q h e out : List ℕ) (r : ℤ) (s' : Sem) (q' h' e' out' : List ℕ) : Type 0 where
   -- all that waited, in their order, each with the result -11
   pub all : length q ≤ length out → Leaves (pos (length q)) (counting 0 s) [] r s' q' × AllAreWoken eagain q out out'
   -- with less room it is refused, and all wait on

@@ -8,13 +8,11 @@ use thread::RUNNING;
 use wait_queue::WAITS;
 ghost use mathlib.Core.Path.{_≡_};
 ghost use mathlib.Core.Bool.{true};
-ghost use Prim.Native.Nat.{ℕ, _<_};
-ghost use mathlib.Core.List.{List};
-ghost use lib.ListN.{length, getD};
-ghost use Rattle.wait_queue.specs.Post.{Told, Listed};
-ghost use Rattle.kind.specs.Object.{on, Does, sized, sane, Audited};
-ghost use Rattle.sem.specs.Sem.{Sem, formed as formedSem, sem-kind};
-ghost use Rattle.sem.specs.Post.{layout, giveOut, tryTakeOut, takeOut, resetOut, getOut, Starts, GiveDecided, TakeDecided};
+ghost use Prim.Native.Nat.{_<_};
+ghost use lib.ListN.{getD};
+ghost use Rattle.kind.specs.Object.{sized, sane};
+ghost use Rattle.sem.specs.Sem.{formed as formedSem, sem-kind};
+ghost use Rattle.sem.specs.Post.{layout, Starts, Gives, TriesTake, Takes, Resets, GetsCount, GetsLimit, CountsWaiters, Audits, GiveDecided, TakeDecided};
 
 // What a give did: Gale's GiveDecision.
 pub const WOKE: i32 = 0;
@@ -97,8 +95,7 @@ pub fn init(h: &mut [u32], count: u32, limit: u32) -> i32
 
 // WOKE: who is to be made ready, with 0; INCREMENTED; SATURATED.
 pub fn give(h: &mut [u32], e: &[u64], who: &mut u64) -> i32
-    ensures { λ r. ⌜ Does layout giveOut (now (h .entry)) (now (e .entry)) r (now (h .exit)) (now (e .entry)) ⌝ }
-    ensures { λ r. ⌜ Told (on layout giveOut (now (h .entry)) (now (e .entry)) .turn .woken) (now (who .entry)) (now (who .exit)) ⌝ }
+    ensures { λ r. ⌜ Gives (now (h .entry)) (now (e .entry)) (now (who .entry)) r (now (h .exit)) (now (who .exit)) ⌝ }
 {
     if !kind::housed(h, 3, e) {
         return EINVAL;
@@ -124,7 +121,7 @@ pub fn give(h: &mut [u32], e: &[u64], who: &mut u64) -> i32
 
 // OK: one was taken; EBUSY: there is none.
 pub fn try_take(h: &mut [u32], e: &[u64]) -> i32
-    ensures { λ r. ⌜ Does layout tryTakeOut (now (h .entry)) (now (e .entry)) r (now (h .exit)) (now (e .entry)) ⌝ }
+    ensures { λ r. ⌜ TriesTake (now (h .entry)) (now (e .entry)) r (now (h .exit)) ⌝ }
 {
     if !kind::housed(h, 3, e) {
         return EINVAL;
@@ -149,7 +146,7 @@ pub fn try_take(h: &mut [u32], e: &[u64]) -> i32
 // A semaphore with a count above 0.
 fn take_there(h: &mut [u32], e: &[u64], id: u32, priority: u32, state: u32) -> i32
     requires { ⌜ (sized 3 (now h) (now e) ≡ true) × (0 < getD (now h) 0 0) ⌝ }
-    ensures { λ r. ⌜ Does layout (takeOut id priority state) (now (h .entry)) (now (e .entry)) r (now (h .exit)) (now (e .entry)) ⌝ }
+    ensures { λ r. ⌜ Takes id priority state (now (h .entry)) (now (e .entry)) r (now (h .exit)) (now (e .entry)) ⌝ }
 {
     let there = h[0];
     if h[1] < there {
@@ -170,7 +167,7 @@ fn take_there(h: &mut [u32], e: &[u64], id: u32, priority: u32, state: u32) -> i
 
 // OK: one was taken; WAITS: the thread waits, behind all of equal or higher priority.
 pub fn take_blocking(h: &mut [u32], e: &mut [u64], id: u32, priority: u32, state: u32) -> i32
-    ensures { λ r. ⌜ Does layout (takeOut id priority state) (now (h .entry)) (now (e .entry)) r (now (h .exit)) (now (e .exit)) ⌝ }
+    ensures { λ r. ⌜ Takes id priority state (now (h .entry)) (now (e .entry)) r (now (h .exit)) (now (e .exit)) ⌝ }
 {
     if !kind::housed(h, 3, e) {
         return EINVAL;
@@ -186,8 +183,7 @@ pub fn take_blocking(h: &mut [u32], e: &mut [u64], id: u32, priority: u32, state
 
 // How many were woken, each with EAGAIN; the count is 0.
 pub fn reset(h: &mut [u32], e: &[u64], out: &mut [u64]) -> i32
-    ensures { λ r. ⌜ Does layout (resetOut (length (now (out .entry)))) (now (h .entry)) (now (e .entry)) r (now (h .exit)) (now (e .entry)) ⌝ }
-    ensures { λ r. ⌜ Listed (on layout (resetOut (length (now (out .entry)))) (now (h .entry)) (now (e .entry)) .turn .woken) (now (out .entry)) (now (out .exit)) ⌝ }
+    ensures { λ r. ⌜ Resets (now (h .entry)) (now (e .entry)) (now (out .entry)) r (now (h .exit)) (now (out .exit)) ⌝ }
 {
     if !formed(h, e) {
         return EINVAL;
@@ -200,7 +196,7 @@ pub fn reset(h: &mut [u32], e: &[u64], out: &mut [u64]) -> i32
 }
 
 pub fn count_get(h: &[u32], e: &[u64]) -> i64
-    ensures { λ r. ⌜ r ≡ on layout (getOut (λ (s : Sem) (q : List ℕ). s .count)) (now (h .entry)) (now (e .entry)) .turn .code ⌝ }
+    ensures { λ r. ⌜ GetsCount (now (h .entry)) (now (e .entry)) r ⌝ }
 {
     if !formed(h, e) {
         return -22;
@@ -209,7 +205,7 @@ pub fn count_get(h: &[u32], e: &[u64]) -> i64
 }
 
 pub fn limit_get(h: &[u32], e: &[u64]) -> i64
-    ensures { λ r. ⌜ r ≡ on layout (getOut (λ (s : Sem) (q : List ℕ). s .limit)) (now (h .entry)) (now (e .entry)) .turn .code ⌝ }
+    ensures { λ r. ⌜ GetsLimit (now (h .entry)) (now (e .entry)) r ⌝ }
 {
     if !formed(h, e) {
         return -22;
@@ -218,7 +214,7 @@ pub fn limit_get(h: &[u32], e: &[u64]) -> i64
 }
 
 pub fn num_waiters(h: &[u32], e: &[u64]) -> i64
-    ensures { λ r. ⌜ r ≡ on layout (getOut (λ (s : Sem) (q : List ℕ). length q)) (now (h .entry)) (now (e .entry)) .turn .code ⌝ }
+    ensures { λ r. ⌜ CountsWaiters (now (h .entry)) (now (e .entry)) r ⌝ }
 {
     if !formed(h, e) {
         return -22;
@@ -228,7 +224,7 @@ pub fn num_waiters(h: &[u32], e: &[u64]) -> i64
 
 // Whether the whole semaphore is well formed.
 pub fn audit(h: &[u32], e: &[u64]) -> bool
-    ensures { λ r. ⌜ Audited sem-kind layout (now (h .entry)) (now (e .entry)) r ⌝ }
+    ensures { λ r. ⌜ Audits (now (h .entry)) (now (e .entry)) r ⌝ }
 {
     if !formed(h, e) {
         return false;

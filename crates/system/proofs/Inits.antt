@@ -13,7 +13,7 @@ use Rattle.seq.proofs.Sub.{sub-length, others-sub}
 use Rattle.thread.specs.Code.{ok, einval}
 use Rattle.wait_queue.specs.Queue.{maxWaiters, of, waiting, holds, without}
 use Rattle.wait_queue.specs.Turn.{at, remove}
-use Rattle.wait_queue.specs.Post as post
+use Rattle.wait_queue.specs.Post.{Removes}
 use Rattle.kind.specs.Kind.{Kind}
 use Rattle.kind.specs.Object.{Layout, Started}
 use Rattle.system.specs.Part.{Part}
@@ -54,7 +54,7 @@ makes {A} {K} P fits L s g o n h e r h' v w l same d = go (A .formed n false) re
 -- the time of the thread i, which waits on the object o, is over: it is removed from the queue in memory, whose length stands in the header
 pub expires : {K : Kind} {N : Type 0} (L : Layout N) (num : N → K .Num) → ((h : List ℕ) (k : ℕ) → L .num (set h (L .len) k) ≡ L .num h) → L .len < L .words
     → (s : Sys K) → Fine s → (i o : ℕ) (h e : List ℕ) → Is L num s o h e → s .state i ≡ system.waiting o
-    → (r : ℤ) (k : ℕ) (e' : List ℕ) → post.Does (remove i) (getD h (L .len) 0) e r k e' → Turns L num s o (expire i) r (set h (L .len) k) e'
+    → (r : ℤ) (k : ℕ) (e' : List ℕ) → Removes i (getD h (L .len) 0) e r k e' → Turns L num s o (expire i) r (set h (L .len) k) e'
 expires {K} L num beside own s g i o h e m w r k e' d =
     let here : at (remove i) (getD h (L .len) 0) e ≡ remove i (s .queue o) = rw (m .room, m .queue) in
     let one : times i (s .queue o) ≡ 1 = g .placed o i ∙ rw (w, eq-eqb o o refl) in

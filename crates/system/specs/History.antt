@@ -7,8 +7,7 @@ use lib.ListN.{length, getD, set}
 use Rattle.seq.specs.List.{All}
 use Rattle.thread.specs.Code.{eagain}
 use Rattle.wait_queue.specs.Queue.{maxWaiters}
-use Rattle.wait_queue.specs.Turn.{remove}
-use Rattle.wait_queue.specs.Post as queue
+use Rattle.wait_queue.specs.Post.{Removes}
 use Rattle.kind.specs.Kind.{Kind}
 use Rattle.kind.specs.Object.{Started}
 use Rattle.system.specs.System.{State, ready, vacant, object, waiting, Sys, Op, both, expire, create}
@@ -56,7 +55,7 @@ module _ {K : Kind} (C : Library K) (sort : ℕ → C .Sort) where
         → Happens s w w' (quiet (create o (class o .part .num n)) (reply r) (o ∷ []) 0 (λ x. x))
     -- remove, of a thread that waits on the object o: it is lent the word of the header that has the queue's length
     removes : (i o : ℕ) (n : K .Num) (r : ℤ) (k : ℕ) → s .state i ≡ waiting o → s .slot o ≡ object n
-        → queue.Does (remove i) (getD (w o .header) (class o .code .layout .len) 0) (w o .entries) r k (w' o .entries)
+        → Removes i (getD (w o .header) (class o .code .layout .len) 0) (w o .entries) r k (w' o .entries)
         → w' o .header ≡ set (w o .header) (class o .code .layout .len) k
         → Happens s w w' (quiet (expire i) (reply r) (o ∷ []) i (λ x. ready eagain))
     -- the kernel's own doing

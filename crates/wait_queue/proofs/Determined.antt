@@ -11,7 +11,7 @@ use Rattle.seq.proofs.Back.{back-length}
 use Rattle.seq.proofs.Only.{said, and, exactly, back-alike, alike-only}
 use Rattle.wait_queue.specs.Queue.{entry}
 use Rattle.wait_queue.specs.Turn.{Turn, at, pend, unpendFirst, unpendAll, remove, parked}
-use Rattle.wait_queue.specs.Post.{Does, Told, Audited}
+use Rattle.wait_queue.specs.Post.{Does, Told, Audits}
 use Rattle.wait_queue.specs.Determined.{Determined}
 
 -- two queues in memory that are the same, with the same words behind what is theirs of e
@@ -38,7 +38,7 @@ pub told-only : (g : List ℕ) (w : ℕ) → Only (λ (w' : ℕ). Told g w w')
 told-only [] w = said w
 told-only (x ∷ g) w = said x
 
-audit-only : (n : ℕ) (e : List ℕ) → Only (λ (r : Bool). Audited n e r)
+audit-only : (n : ℕ) (e : List ℕ) → Only (λ (r : Bool). Audits n e r)
 audit-only n e x y m k = exactly x y (m .sound) (m .complete) (k .sound) (k .complete)
 
 pub determined : Determined
@@ -50,7 +50,7 @@ determined =
       new = said _;
       len = λ n e. said _;
       is-empty = λ n e. said _;
-      holds = λ n e i. said _;
+      holds = λ n i e. said _;
       enter = λ i p. does-only (parked (entry p i));
       pend = λ i p st. does-only (pend i p st);
       unpend-first = λ z n e w. and _ _ (reads-only (unpendFirst z) n e) (told-only (at (unpendFirst z) n e .woken) w);

@@ -1,28 +1,24 @@
 // Wait queues: the length, and the entries.
 use wait_queue::MAX_WAITERS;
-ghost use mathlib.Core.Path.{_≡_};
-ghost use lib.IntN.{pos};
-ghost use lib.ListN.{length};
-ghost use Rattle.wait_queue.specs.Turn.{at, pend as pendTurn, unpendFirst, unpendAll, remove as removeTurn};
-ghost use Rattle.wait_queue.specs.Post.{Does, Told, Listed, number, isEmpty, Audited};
+ghost use Rattle.wait_queue.specs.Post.{Starts, GetsLen, SaysEmpty, Pends, UnpendsFirst, UnpendsAll, Removes, Audits};
 
 #[no_mangle]
 pub extern "C" fn wq_wait_queue_new(len: &mut u32)
-    ensures { λ _. ⌜ now (len .exit) ≡ 0 ⌝ }
+    ensures { λ _. ⌜ Starts (now (len .exit)) ⌝ }
 {
     wait_queue::new(len);
 }
 
 #[no_mangle]
 pub extern "C" fn wq_wait_queue_len(len: u32, entry: &[u64; MAX_WAITERS]) -> i32
-    ensures { λ r. ⌜ r ≡ number len (now (entry .entry)) (pos len) ⌝ }
+    ensures { λ r. ⌜ GetsLen len (now (entry .entry)) r ⌝ }
 {
     wait_queue::len(len, entry)
 }
 
 #[no_mangle]
 pub extern "C" fn wq_wait_queue_is_empty(len: u32, entry: &[u64; MAX_WAITERS]) -> i32
-    ensures { λ r. ⌜ r ≡ number len (now (entry .entry)) (isEmpty len) ⌝ }
+    ensures { λ r. ⌜ SaysEmpty len (now (entry .entry)) r ⌝ }
 {
     wait_queue::is_empty(len, entry)
 }
@@ -35,7 +31,7 @@ pub extern "C" fn wq_wait_queue_pend(
     priority: u32,
     state: u32,
 ) -> i32
-    ensures { λ r. ⌜ Does (pendTurn id priority state) (now (len .entry)) (now (entry .entry)) r (now (len .exit)) (now (entry .exit)) ⌝ }
+    ensures { λ r. ⌜ Pends id priority state (now (len .entry)) (now (entry .entry)) r (now (len .exit)) (now (entry .exit)) ⌝ }
 {
     wait_queue::pend(len, entry, id, priority, state)
 }
@@ -47,8 +43,7 @@ pub extern "C" fn wq_wait_queue_unpend_first(
     return_value: i32,
     who: &mut u64,
 ) -> i32
-    ensures { λ r. ⌜ Does (unpendFirst «return_value») (now (len .entry)) (now (entry .entry)) r (now (len .exit)) (now (entry .entry)) ⌝ }
-    ensures { λ r. ⌜ Told (at (unpendFirst «return_value») (now (len .entry)) (now (entry .entry)) .woken) (now (who .entry)) (now (who .exit)) ⌝ }
+    ensures { λ r. ⌜ UnpendsFirst «return_value» (now (len .entry)) (now (entry .entry)) (now (who .entry)) r (now (len .exit)) (now (who .exit)) ⌝ }
 {
     wait_queue::unpend_first(len, entry, return_value, who)
 }
@@ -60,8 +55,7 @@ pub extern "C" fn wq_wait_queue_unpend_all(
     return_value: i32,
     out: &mut [u64],
 ) -> i32
-    ensures { λ r. ⌜ Does (unpendAll «return_value» (length (now (out .entry)))) (now (len .entry)) (now (entry .entry)) r (now (len .exit)) (now (entry .entry)) ⌝ }
-    ensures { λ r. ⌜ Listed (at (unpendAll «return_value» (length (now (out .entry)))) (now (len .entry)) (now (entry .entry)) .woken) (now (out .entry)) (now (out .exit)) ⌝ }
+    ensures { λ r. ⌜ UnpendsAll «return_value» (now (len .entry)) (now (entry .entry)) (now (out .entry)) r (now (len .exit)) (now (out .exit)) ⌝ }
 {
     wait_queue::unpend_all(len, entry, return_value, out)
 }
@@ -72,14 +66,14 @@ pub extern "C" fn wq_wait_queue_remove(
     entry: &mut [u64; MAX_WAITERS],
     id: u32,
 ) -> i32
-    ensures { λ r. ⌜ Does (removeTurn id) (now (len .entry)) (now (entry .entry)) r (now (len .exit)) (now (entry .exit)) ⌝ }
+    ensures { λ r. ⌜ Removes id (now (len .entry)) (now (entry .entry)) r (now (len .exit)) (now (entry .exit)) ⌝ }
 {
     wait_queue::remove(len, entry, id)
 }
 
 #[no_mangle]
 pub extern "C" fn wq_wait_queue_audit(len: u32, entry: &[u64; MAX_WAITERS]) -> bool
-    ensures { λ r. ⌜ Audited len (now (entry .entry)) r ⌝ }
+    ensures { λ r. ⌜ Audits len (now (entry .entry)) r ⌝ }
 {
     wait_queue::audit(len, entry)
 }

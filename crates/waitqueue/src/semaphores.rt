@@ -1,13 +1,6 @@
 // Counting semaphores: the header's three words, and the entries.
 use wait_queue::MAX_WAITERS;
-ghost use mathlib.Core.Path.{_≡_};
-ghost use mathlib.Core.List.{List};
-ghost use Prim.Native.Nat.{ℕ};
-ghost use lib.ListN.{length};
-ghost use Rattle.wait_queue.specs.Post.{Told, Listed};
-ghost use Rattle.kind.specs.Object.{on, Does, Audited};
-ghost use Rattle.sem.specs.Sem.{Sem, sem-kind};
-ghost use Rattle.sem.specs.Post.{layout, giveOut, tryTakeOut, takeOut, resetOut, getOut, Starts, GiveDecided, TakeDecided};
+ghost use Rattle.sem.specs.Post.{Starts, Gives, TriesTake, Takes, Resets, GetsCount, GetsLimit, CountsWaiters, Audits, GiveDecided, TakeDecided};
 
 #[no_mangle]
 pub extern "C" fn wq_sem_give_decide(count: u32, limit: u32, has_waiter: bool) -> i32
@@ -32,15 +25,14 @@ pub extern "C" fn wq_sem_init(head: &mut [u32; 3], count: u32, limit: u32) -> i3
 
 #[no_mangle]
 pub extern "C" fn wq_sem_give(head: &mut [u32; 3], entry: &[u64; MAX_WAITERS], who: &mut u64) -> i32
-    ensures { λ r. ⌜ Does layout giveOut (now (head .entry)) (now (entry .entry)) r (now (head .exit)) (now (entry .entry)) ⌝ }
-    ensures { λ r. ⌜ Told (on layout giveOut (now (head .entry)) (now (entry .entry)) .turn .woken) (now (who .entry)) (now (who .exit)) ⌝ }
+    ensures { λ r. ⌜ Gives (now (head .entry)) (now (entry .entry)) (now (who .entry)) r (now (head .exit)) (now (who .exit)) ⌝ }
 {
     sem::give(head, entry, who)
 }
 
 #[no_mangle]
 pub extern "C" fn wq_sem_try_take(head: &mut [u32; 3], entry: &[u64; MAX_WAITERS]) -> i32
-    ensures { λ r. ⌜ Does layout tryTakeOut (now (head .entry)) (now (entry .entry)) r (now (head .exit)) (now (entry .entry)) ⌝ }
+    ensures { λ r. ⌜ TriesTake (now (head .entry)) (now (entry .entry)) r (now (head .exit)) ⌝ }
 {
     sem::try_take(head, entry)
 }
@@ -53,7 +45,7 @@ pub extern "C" fn wq_sem_take_blocking(
     priority: u32,
     state: u32,
 ) -> i32
-    ensures { λ r. ⌜ Does layout (takeOut id priority state) (now (head .entry)) (now (entry .entry)) r (now (head .exit)) (now (entry .exit)) ⌝ }
+    ensures { λ r. ⌜ Takes id priority state (now (head .entry)) (now (entry .entry)) r (now (head .exit)) (now (entry .exit)) ⌝ }
 {
     sem::take_blocking(head, entry, id, priority, state)
 }
@@ -64,36 +56,35 @@ pub extern "C" fn wq_sem_reset(
     entry: &[u64; MAX_WAITERS],
     out: &mut [u64],
 ) -> i32
-    ensures { λ r. ⌜ Does layout (resetOut (length (now (out .entry)))) (now (head .entry)) (now (entry .entry)) r (now (head .exit)) (now (entry .entry)) ⌝ }
-    ensures { λ r. ⌜ Listed (on layout (resetOut (length (now (out .entry)))) (now (head .entry)) (now (entry .entry)) .turn .woken) (now (out .entry)) (now (out .exit)) ⌝ }
+    ensures { λ r. ⌜ Resets (now (head .entry)) (now (entry .entry)) (now (out .entry)) r (now (head .exit)) (now (out .exit)) ⌝ }
 {
     sem::reset(head, entry, out)
 }
 
 #[no_mangle]
 pub extern "C" fn wq_sem_count_get(head: &[u32; 3], entry: &[u64; MAX_WAITERS]) -> i64
-    ensures { λ r. ⌜ r ≡ on layout (getOut (λ (s : Sem) (q : List ℕ). s .count)) (now (head .entry)) (now (entry .entry)) .turn .code ⌝ }
+    ensures { λ r. ⌜ GetsCount (now (head .entry)) (now (entry .entry)) r ⌝ }
 {
     sem::count_get(head, entry)
 }
 
 #[no_mangle]
 pub extern "C" fn wq_sem_limit_get(head: &[u32; 3], entry: &[u64; MAX_WAITERS]) -> i64
-    ensures { λ r. ⌜ r ≡ on layout (getOut (λ (s : Sem) (q : List ℕ). s .limit)) (now (head .entry)) (now (entry .entry)) .turn .code ⌝ }
+    ensures { λ r. ⌜ GetsLimit (now (head .entry)) (now (entry .entry)) r ⌝ }
 {
     sem::limit_get(head, entry)
 }
 
 #[no_mangle]
 pub extern "C" fn wq_sem_num_waiters(head: &[u32; 3], entry: &[u64; MAX_WAITERS]) -> i64
-    ensures { λ r. ⌜ r ≡ on layout (getOut (λ (s : Sem) (q : List ℕ). length q)) (now (head .entry)) (now (entry .entry)) .turn .code ⌝ }
+    ensures { λ r. ⌜ CountsWaiters (now (head .entry)) (now (entry .entry)) r ⌝ }
 {
     sem::num_waiters(head, entry)
 }
 
 #[no_mangle]
 pub extern "C" fn wq_sem_audit(head: &[u32; 3], entry: &[u64; MAX_WAITERS]) -> bool
-    ensures { λ r. ⌜ Audited sem-kind layout (now (head .entry)) (now (entry .entry)) r ⌝ }
+    ensures { λ r. ⌜ Audits (now (head .entry)) (now (entry .entry)) r ⌝ }
 {
     sem::audit(head, entry)
 }

@@ -41,8 +41,7 @@ returns-3 : tie.Need-returns-3
 returns-3 c =
     let a = c .before .before .before .before .before .before .before .before .before .before .before .before .before .args in
     let u = c .unpend-first in
-    gave-woke (a .h .now) (a .e .now) (sym (c .before .before .before .before .formed .ensures) ∙ not-false _ (c .before .before .before .if3 .left)) (a .who .now) (u .last .1 .1 .1 .0) (u .result) (u .last .0) (omega arith)
-    (u .ensures .0) (u .ensures .1)
+    gave-woke (a .h .now) (a .e .now) (sym (c .before .before .before .before .formed .ensures) ∙ not-false _ (c .before .before .before .if3 .left)) (a .who .now) (u .last .1 .1 .1 .0) (u .result) (u .last .0) (omega arith) (u .ensures)
 
 slice-read-count : tie.Need-slice-read-count
 slice-read-count c = let a = c .before .before .before .before .before .before .before .before .args in omega (arith, its-words (a .h .now) (a .e .now) (sym (c .before .before .before .before .housed .ensures) ∙ not-false _ (c .before .before .before .if1 .left)))

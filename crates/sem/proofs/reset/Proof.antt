@@ -52,7 +52,7 @@ returns-3 c =
     let v = len-kept (a .h .now) 0 in
     rw (answered {z = u .result} (u .ok))
     (cleared-all (a .h .now) (a .e .now) (sym (c .before .before .before .before .before .before .before .before .before .formed .ensures) ∙ not-false _ (c .before .before .before .before .before .before .before .before .if1 .left)) (a .out .now) (u .result) (u .last .0) (u .last .1 .1 .1 .0) (omega (arith, c .before .before .before .before .before .before .wide .ensures))
-    (rw v at (u .ensures .0)) (rw v at (u .ensures .1)))
+    (rw v at (u .ensures)))
 
 pub reset-spec : {M : Type 1} → statement M
 reset-spec =
