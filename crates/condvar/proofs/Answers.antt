@@ -164,15 +164,15 @@ module _ (i p st : ℕ) (h e m d : List ℕ) (w : ℕ) where
           record { code = rw (z, u); neither = (v .0, v .1, refl, refl); both = tt; written = unwritten m }
 
       -- both are done
-      pub wait-both : (c : ℕ) → r ≡ pos c → (m' : List ℕ) (w' : ℕ) (u : ℤ) → Does mutex.layout passOut m d u m' d
-          → Told (on mutex.layout passOut m d .turn .woken) w w' → mutex.Written m m' → Waited i p st h e m d w (pos a) (set h 0 k) e' m' w'
-      wait-both c y m' w' u g t l =
+      pub wait-both : (c : ℕ) → r ≡ pos c → (m' : List ℕ) (w' : ℕ) (u : ℤ) → mutex.Passes m d w u m' w'
+          → Waited i p st h e m d w (pos a) (set h 0 k) e' m' w'
+      wait-both c y m' w' u g =
           let o : on mutex.layout passOut m d ≡ on mutex.layout (releaseOut i p st) m d = release-passes m d i p st a z in
-          let f : u ≡ pos a = g .code ∙ ap (λ (x : Out Mutex). x .turn .code) o ∙ z in
+          let f : u ≡ pos a = g .0 .0 .code ∙ ap (λ (x : Out Mutex). x .turn .code) o ∙ z in
           let n : r ≡ waits = joins-waits i p st (getD h 0 0) e c (sym (q .code) ∙ y) (q .code) in
           record {
             code = rw (z, sym (joined .code) ∙ y);
             neither = tt;
-            both = (rw n at joined, rw f at (alike mutex.layout passOut (releaseOut i p st) m d u m' d o g), rw o at t);
-            written = l;
+            both = (rw n at joined, rw f at (alike mutex.layout passOut (releaseOut i p st) m d u m' d o (g .0 .0)), rw o at (g .0 .1));
+            written = g .1;
           }

@@ -15,18 +15,18 @@ use Rattle.seq.proofs.Order.{clash}
 use Rattle.thread.specs.Code.{ok, eperm, enoent, ebusy, einval, edeadlk, eoverflow}
 use Rattle.thread.specs.Caller.{callerCode}
 use Rattle.wait_queue.specs.Queue.{ident, woken, waiting, roomy, holds}
-use Rattle.wait_queue.specs.Turn.{at, waits, pend, unpendFirst}
-use Rattle.wait_queue.specs.Post.{Told}
+use Rattle.wait_queue.specs.Turn.{at, waits, unpendFirst}
+use Rattle.wait_queue.specs.Post.{Told, Pends, UnpendsFirst}
 use Rattle.wait_queue.specs.Post as queue
 use Rattle.kind.specs.Verdict.{upTo, keep, wake, Verdict, deny, allow}
 use Rattle.kind.specs.Kind.{plain}
 use Rattle.kind.specs.Object as object
-use Rattle.kind.specs.Object.{refused, named, carried, on, Does, sized, sane}
+use Rattle.kind.specs.Object.{refused, named, carried, on, Does, Started, sized, sane}
 use Rattle.kind.specs.Post.{Tells}
 use Rattle.kind.proofs.Memory.{Housed, Header, is-on, alike, refuses, renumbered, turned, is-sane, unsized, sized-words, misnumbered, idle-sane, roomy-sane}
 use Rattle.kind.proofs.Answers.{silent, verdict, call-no, call-barred, call-is, call-denied, keeps, waits-now, unseen, seen, start-short, start-made}
 use Rattle.mutex.specs.Mutex.{nobody, Mutex, lock, tryLock, unlock, release, formed, maxCount, released, unlocked, transferred, free, taken, counting, passes, mutex-kind}
-use Rattle.mutex.specs.Post.{ownerIn, layout, tryLockOut, unlockOut, lockOut, passOut, releaseOut, getOut, isLocked, ownerId, apart, Starts, Audited, unlockDeed, LockDecided, UnlockDecided}
+use Rattle.mutex.specs.Post.{ownerIn, layout, tryLockOut, unlockOut, lockOut, passOut, releaseOut, getOut, isLocked, ownerId, apart, ReleaseDecided, SaysLocked, GetsOwner, Audits, unlockDeed, LockDecided, UnlockDecided}
 use Rattle.mutex.proofs.Law.{mk, free-fine, free-empty}
 
 -- on plain numbers
@@ -149,13 +149,10 @@ module _ (h e : List ℕ) where
   pub lock-no : (i p st : ℕ) → sane mutex-kind layout h e ≡ false → Does layout (lockOut i p st) h e einval h e
   lock-no i p st s = refuses layout (lockOut i p st) h e 21 (call-no mutex-kind layout plain (object.thread i p st) lock h e s)
 
-  abbrev pub Unlocks : ℕ → ℕ → ℤ → List ℕ → ℕ → Type 0
-  Unlocks i = Tells layout (unlockOut i) h e
-
-  pub unlock-no : (i w : ℕ) → sane mutex-kind layout h e ≡ false → Unlocks i w einval h w
+  pub unlock-no : (i w : ℕ) → sane mutex-kind layout h e ≡ false → Tells layout (unlockOut i) h e w einval h w
   unlock-no i w s = silent layout (unlockOut i) h e 21 (call-no mutex-kind layout plain (named i) unlock h e s) w
 
-  pub release-no : (i p st : ℕ) → sane mutex-kind layout h e ≡ false → einval ≡ on layout (releaseOut i p st) h e .turn .code
+  pub release-no : (i p st : ℕ) → sane mutex-kind layout h e ≡ false → ReleaseDecided i p st h e einval
   release-no i p st s = rw (call-no mutex-kind layout plain (object.thread i p st) release h e s) refl
 
   pub got-no : (g : Mutex → List ℕ → ℤ) → sane mutex-kind layout h e ≡ false → einval ≡ on layout (getOut g) h e .turn .code
@@ -202,20 +199,20 @@ module _ (h e : List ℕ) where
         .0)
 
     -- unlock
-    pub unlock-free : (i w : ℕ) → getD h 2 0 ≡ 0 → Unlocks i w einval h w
+    pub unlock-free : (i w : ℕ) → getD h 2 0 ≡ 0 → Tells layout (unlockOut i) h e w einval h w
     unlock-free i w k = silent layout (unlockOut i) h e 21 (call-denied mutex-kind layout plain (named i) unlock h e s 0 refl 21 (rw (free-flag k))) w
 
-    pub unlock-other : (i w : ℕ) → 0 < getD h 2 0 → (getD h 1 0 ≡ i → ⊥) → Unlocks i w eperm h w
+    pub unlock-other : (i w : ℕ) → 0 < getD h 2 0 → (getD h 1 0 ≡ i → ⊥) → Tells layout (unlockOut i) h e w eperm h w
     unlock-other i w k n =
         silent layout (unlockOut i) h e 0 (call-denied mutex-kind layout plain (named i) unlock h e s 0 refl 0 (rw (held-flag k, ne-eqb (getD h 1 0) i n))) w
 
-    pub unlock-nested : (i w : ℕ) → getD h 1 0 ≡ i → 1 < getD h 2 0 → Unlocks i w released (set h 2 (getD h 2 0 - 1)) w
+    pub unlock-nested : (i w : ℕ) → getD h 1 0 ≡ i → 1 < getD h 2 0 → Tells layout (unlockOut i) h e w released (set h 2 (getD h 2 0 - 1)) w
     unlock-nested i w o k =
         keeps mutex-kind layout plain (named i) unlock h e s 0 refl (counting (getD h 2 0 - 1) (layout .num h)) 0 (set h 2 (getD h 2 0 - 1)) w
         (rw (held-flag (omega arith), eq-eqb (getD h 1 0) i o, lt-ltb 1 (getD h 2 0) k)) (counted h words (getD h 2 0 - 1))
 
     -- the last unlock is what passes it on
-    pub unlock-passes : (i w : ℕ) → getD h 1 0 ≡ i → 0 < getD h 2 0 → getD h 2 0 ≤ 1 → (r : ℤ) (h' : List ℕ) (w' : ℕ) → Tells layout passOut h e w r h' w' → Unlocks i w r h' w'
+    pub unlock-passes : (i w : ℕ) → getD h 1 0 ≡ i → 0 < getD h 2 0 → getD h 2 0 ≤ 1 → (r : ℤ) (h' : List ℕ) (w' : ℕ) → Tells layout passOut h e w r h' w' → Tells layout (unlockOut i) h e w r h' w'
     unlock-passes i w o k l r h' w' t =
         let u : on layout passOut h e ≡ on layout (unlockOut i) h e =
         is-on layout passOut h e (is-sane mutex-kind layout h e s .housed)
@@ -251,7 +248,7 @@ module _ (h e : List ℕ) where
             .0)
 
       -- release_decide
-      pub release-caller : (c : ℕ) → callerCode p st ≡ negsuc c → negsuc c ≡ on layout (releaseOut i p st) h e .turn .code
+      pub release-caller : (c : ℕ) → callerCode p st ≡ negsuc c → ReleaseDecided i p st h e (negsuc c)
       release-caller c z = rw (call-barred mutex-kind layout plain (object.thread i p st) release h e s c z) refl
 
       module _ (c : ℕ) (z : callerCode p st ≡ pos c) where
@@ -259,7 +256,7 @@ module _ (h e : List ℕ) where
             → on layout (releaseOut i p st) h e ≡ carried (object.thread i p st) d (layout .num h) (waiting e (getD h 3 0))
         outcome d y = call-is mutex-kind layout plain (object.thread i p st) release h e s c z d y
 
-        pub release-free : getD h 2 0 ≡ 0 → einval ≡ on layout (releaseOut i p st) h e .turn .code
+        pub release-free : getD h 2 0 ≡ 0 → ReleaseDecided i p st h e einval
         release-free k = rw (outcome (deny einval) (rw (free-flag k))) refl
 
         pub release-other : 0 < getD h 2 0 → (getD h 1 0 ≡ i → ⊥) → eperm ≡ on layout (releaseOut i p st) h e .turn .code
@@ -311,29 +308,29 @@ module _ (h e : List ℕ) where
     got g = seen mutex-kind layout g h e s
 
     module _ (k : 0 < getD h 0 0) where
-      pub got-locked : pos 1 ≡ on layout (getOut (λ m q. isLocked m)) h e .turn .code
+      pub got-locked : SaysLocked h e (pos 1)
       got-locked = let z : isLocked (layout .num h) ≡ pos 1 = rw (lt-ltb 0 (getD h 0 0) k) in sym z ∙ got (λ m q. isLocked m)
 
-      pub got-owner : pos (getD h 1 0) ≡ on layout (getOut (λ m q. ownerId (m .owner))) h e .turn .code
+      pub got-owner : GetsOwner h e (pos (getD h 1 0))
       got-owner = let z : ownerId (layout .num h .owner) ≡ pos (getD h 1 0) = rw (lt-ltb 0 (getD h 0 0) k) in sym z ∙ got (λ m q. ownerId (m .owner))
 
     module _ (k : getD h 0 0 ≡ 0) where
-      pub got-free : pos 0 ≡ on layout (getOut (λ m q. isLocked m)) h e .turn .code
+      pub got-free : SaysLocked h e (pos 0)
       got-free = let z : isLocked (layout .num h) ≡ pos 0 = rw k in sym z ∙ got (λ m q. isLocked m)
 
-      pub got-nobody : enoent ≡ on layout (getOut (λ m q. ownerId (m .owner))) h e .turn .code
+      pub got-nobody : GetsOwner h e enoent
       got-nobody = let z : ownerId (layout .num h .owner) ≡ enoent = rw k in sym z ∙ got (λ m q. ownerId (m .owner))
 
   -- audit
-  pub audit-no : sane mutex-kind layout h e ≡ false → Audited h e false
+  pub audit-no : sane mutex-kind layout h e ≡ false → Audits h e false
   audit-no s = record { sound = λ z. clash (sym z); complete = λ w. clash (sym (w .0) ∙ s) }
 
   module _ (s : sane mutex-kind layout h e ≡ true) where
-    pub audit-bad : queue.Audits (getD h 3 0) e false → Audited h e false
+    pub audit-bad : queue.Audits (getD h 3 0) e false → Audits h e false
     audit-bad a = record { sound = λ z. clash (sym z); complete = λ w. a .complete (is-sane mutex-kind layout h e s .housed .room, w .1) }
 
     module _ (a : queue.Audits (getD h 3 0) e true) (r : Bool) (g : apart (layout .num h .owner) (waiting e (getD h 3 0)) ≡ r) where
-      pub audit-owner : Audited h e r
+      pub audit-owner : Audits h e r
       audit-owner = record { sound = λ z. (s, a .sound refl .1, g ∙ z); complete = λ w. sym g ∙ w .2 }
 
     pub free-apart : getD h 0 0 ≡ 0 → apart (layout .num h .owner) (waiting e (getD h 3 0)) ≡ true
@@ -376,37 +373,34 @@ module _ (h e : List ℕ) where
     held-yes f c r = roomy-sane mutex-kind layout h e z r (rw (lt-ltb 0 (getD h 0 0) f) (lt-ltb 0 (getD h 2 0) c))
 
     -- the thread waits, whatever the queue says
-    pub lock-waits : (i p st : ℕ) → 0 < getD h 0 0 → 0 < getD h 2 0 → (getD h 1 0 ≡ i → ⊥) → (r : ℤ) (m : ℕ) (e' : List ℕ) → queue.Does (pend i p st) (getD h 3 0) e r m e'
+    pub lock-waits : (i p st : ℕ) → 0 < getD h 0 0 → 0 < getD h 2 0 → (getD h 1 0 ≡ i → ⊥) → (r : ℤ) (m : ℕ) (e' : List ℕ) → Pends i p st (getD h 3 0) e r m e'
         → Does layout (lockOut i p st) h e r (set h 3 m) e'
     lock-waits i p st f c n r m e' d =
         waits-now mutex-kind layout plain i p st lock h e tt waits r m e' (omega arith) its-words (rw (lt-ltb 0 (getD h 0 0) f) (lt-ltb 0 (getD h 2 0) c))
         (rw (lt-ltb 0 (getD h 0 0) f, ne-eqb (getD h 1 0) i n)) d (fewer h its-words m)
 
 -- no lock: nobody unlocks, whatever else is wrong
-pub unlock-lockless : (h e : List ℕ) (i w : ℕ) → getD h 2 0 ≡ 0 → Unlocks h e i w einval h w
+pub unlock-lockless : (h e : List ℕ) (i w : ℕ) → getD h 2 0 ≡ 0 → Tells layout (unlockOut i) h e w einval h w
 unlock-lockless h e i w c = go (sane mutex-kind layout h e) refl
   where
-    go : (b : Bool) → sane mutex-kind layout h e ≡ b → Unlocks h e i w einval h w
+    go : (b : Bool) → sane mutex-kind layout h e ≡ b → Tells layout (unlockOut i) h e w einval h w
     go true s = unlock-free h e s i w c
     go false s = unlock-no h e i w s
 
 -- the last unlock alone
 module _ (h e : List ℕ) (w : ℕ) where
-  abbrev pub Passes : ℤ → List ℕ → ℕ → Type 0
-  Passes = Tells layout passOut h e w
-
-  pub pass-short : length h < 4 → Passes einval h w
+  pub pass-short : length h < 4 → Tells layout passOut h e w einval h w
   pass-short k = silent layout passOut h e 21 (rw (lt-leb 4 (length h) k)) w
 
   module _ (k : 4 ≤ length h) where
-    pub pass-no : roomy (getD h 3 0) e ≡ false → Passes einval h w
+    pub pass-no : roomy (getD h 3 0) e ≡ false → Tells layout passOut h e w einval h w
     pass-no r = silent layout passOut h e 21 (rw (le-leb 4 (length h) k, r)) w
 
     module _ (r : roomy (getD h 3 0) e ≡ true) where
       there : Housed layout h e
       there = record { words = k; room = r }
 
-      pub pass-free : getD h 3 0 ≡ 0 → Passes unlocked (set (set h 0 0) 2 0) w
+      pub pass-free : getD h 3 0 ≡ 0 → Tells layout passOut h e w unlocked (set (set h 0 0) 2 0) w
       pass-free z =
           let o : passOut (layout .num h) (waiting e (getD h 3 0)) ≡ record { num = free; turn = record { code = unlocked; queue = waiting e (getD h 3 0); woken = [] } } = rw z in
           (renumbered layout passOut h e 1 free (set (set h 0 0) 2 0) there o (freed h k), rw (is-on layout passOut h e there ∙ o) refl)
@@ -416,12 +410,12 @@ module _ (h e : List ℕ) (w : ℕ) where
       retold zero v w' z q t = absurd (omega arith)
       retold (suc m) v w' z q t = let y : w' ≡ woken ok (getD e m 0) = rw q at t in rw q y
 
-      pub pass-first : (a : ℤ) (n w' : ℕ) → 0 < getD h 3 0 → queue.Does (unpendFirst ok) (getD h 3 0) e a n e
-          → Told (at (unpendFirst ok) (getD h 3 0) e .woken) w w' → Passes transferred (set (set (set (set h 3 n) 0 1) 1 (ident w')) 2 1) w'
-      pass-first a n w' z d t =
-          let o = first (getD h 3 0) w' z r t in (
-            turned layout passOut h e (unpendFirst ok) (taken (ident w')) 2 a n (set (set (set (set h 3 n) 0 1) 1 (ident w')) 2 1) e there o d (seated h k n (ident w')),
-            rw (is-on layout passOut h e there ∙ o) t,
+      pub pass-first : (a : ℤ) (n w' : ℕ) → 0 < getD h 3 0 → UnpendsFirst ok (getD h 3 0) e w a n w'
+          → Tells layout passOut h e w transferred (set (set (set (set h 3 n) 0 1) 1 (ident w')) 2 1) w'
+      pass-first a n w' z d =
+          let o = first (getD h 3 0) w' z r (d .1) in (
+            turned layout passOut h e (unpendFirst ok) (taken (ident w')) 2 a n (set (set (set (set h 3 n) 0 1) 1 (ident w')) 2 1) e there o (d .0) (seated h k n (ident w')),
+            rw (is-on layout passOut h e there ∙ o) (d .1),
           )
         where
           first : (m w' : ℕ) → 0 < m → roomy m e ≡ true → Told (at (unpendFirst ok) m e .woken) w w'
@@ -459,8 +453,8 @@ release-asks h e i p st k y = go (sane mutex-kind layout h e) (callerCode p st) 
 
 -- init
 module _ (h : List ℕ) where
-  pub short : length h < 4 → Starts h einval h
+  pub short : length h < 4 → Started mutex-kind layout free h einval h
   short k = start-short mutex-kind layout free h k
 
-  pub made : 4 ≤ length h → Starts h ok (set (set (set h 0 0) 2 0) 3 0)
+  pub made : 4 ≤ length h → Started mutex-kind layout free h ok (set (set (set h 0 0) 2 0) 3 0)
   made k = start-made mutex-kind layout free h (set (set (set h 0 0) 2 0) 3 0) k refl (new h k)

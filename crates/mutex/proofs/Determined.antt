@@ -13,9 +13,10 @@ use Rattle.seq.proofs.Only.{said, and, exactly, back-alike}
 use Rattle.wait_queue.specs.Post.{Told}
 use Rattle.wait_queue.proofs.Determined.{told-only}
 use Rattle.kind.specs.Object.{Out, on, Does}
+use Rattle.kind.specs.Post.{Tells}
 use Rattle.kind.proofs.Determined.{Outcome, same-outcome, same-start}
 use Rattle.mutex.specs.Mutex.{nobody, thread, Mutex, free, mutex-kind}
-use Rattle.mutex.specs.Post.{ownerIn, layout, tryLockOut, unlockOut, lockOut, passOut, Starts, Written, Audited, LockDecided, UnlockDecided}
+use Rattle.mutex.specs.Post.{ownerIn, layout, tryLockOut, unlockOut, lockOut, passOut, Starts, Written, Audits, LockDecided, UnlockDecided}
 use Rattle.mutex.specs.Determined.{Determined}
 
 module _ (h h₁ h₂ : List ℕ) (u : Written h h₁) (v : Written h h₂) (l : getD h₁ 3 0 ≡ getD h₂ 3 0) where
@@ -55,15 +56,15 @@ module _ (f : Mutex → List ℕ → Out Mutex) (h e : List ℕ) where
   pub reads-only : Only (λ ((r, h') : ℤ × List ℕ). Does layout f h e r h' e × Written h h')
   reads-only x y m k = let q = does-only (x .0, x .1, e) (y .0, y .1, e) m k in λ i. (q i .0, q i .1)
 
-  tells-only : (w : ℕ) → Only (λ ((r, h', w') : ℤ × List ℕ × ℕ). Does layout f h e r h' e × Told (on layout f h e .turn .woken) w w' × Written h h')
+  tells-only : (w : ℕ) → Only (λ ((r, h', w') : ℤ × List ℕ × ℕ). Tells layout f h e w r h' w' × Written h h')
   tells-only w x y m k =
       and (λ r h'. Does layout f h e r h' e × Written h h') (Told (on layout f h e .turn .woken) w) reads-only (told-only (on layout f h e .turn .woken) w) x y
-      ((m .0, m .2), m .1) ((k .0, k .2), k .1)
+      ((m .0 .0, m .1), m .0 .1) ((k .0 .0, k .1), k .0 .1)
 
-starts-only : (h : List ℕ) → Only (λ ((r, h') : ℤ × List ℕ). Starts h r h' × Written h h')
+starts-only : (h : List ℕ) → Only (λ ((r, h') : ℤ × List ℕ). Starts h r h')
 starts-only h x y m k = same-start mutex-kind layout free h x y (m .0) (k .0) (λ n l. words h (x .1) (y .1) (m .1) (k .1) l n)
 
-audit-only : (h e : List ℕ) → Only (λ (r : Bool). Audited h e r)
+audit-only : (h e : List ℕ) → Only (λ (r : Bool). Audits h e r)
 audit-only h e x y m k = exactly x y (m .sound) (m .complete) (k .sound) (k .complete)
 
 -- there are two threads, and a queue in which nobody waits

@@ -25,7 +25,7 @@ use Rattle.kind.specs.History.{Object, Event, calls, asks, happens, next, run, 
 use Rattle.kind.proofs.Memory.{Housed, is-on, malformed, alike, shown, unchanged, barred}
 use Rattle.kind.proofs.Histories.{always, step}
 use Rattle.mutex.specs.Mutex.{Owner, nobody, thread, Mutex, Call, lock, tryLock, unlock, held, formed, maxCount, released, unlocked, transferred, free, taken, mutex-kind}
-use Rattle.mutex.specs.Post.{layout, tryLockOut, unlockOut, lockOut, getOut, isLocked, ownerId, Starts, LockDecided, UnlockDecided}
+use Rattle.mutex.specs.Post.{layout, tryLockOut, unlockOut, lockOut, getOut, isLocked, ownerId, Starts, TriesLock, Locks, Unlocks, SaysLocked, GetsLockCount, CountsWaiters, GetsOwner, LockDecided, UnlockDecided}
 use Rattle.mutex.specs.History.{fresh, after}
 use Rattle.mutex.specs.Upstream.{Inv, isOk, Another, Init, TryLock, LockBlocking, Unlock, IsLocked, LockCountGet, NumWaiters, OwnerGet, LockDecide, UnlockDecide, OwnerCount, Roundtrip, times, Depth}
 use Rattle.mutex.proofs.Law.{mk, free-fine, free-empty, mutex-lawful}
@@ -145,8 +145,8 @@ formed-inv (thread j) c q f w = record { owned = λ k. refl; counted = λ k. ltb
 -- init
 pub mutex-init : (h : List ℕ) (r : ℤ) (h' e : List ℕ) → 4 ≤ length h → Starts h r h' → (r ≡ ok) × Init (layout .num h') (waiting e (getD h' 3 0))
 mutex-init h r h' e k s =
-    let c : r ≡ ok = s .code ∙ rw (le-leb 4 (length h) k) in
-    let m = s .made c in
+    let c : r ≡ ok = s .0 .code ∙ rw (le-leb 4 (length h) k) in
+    let m = s .0 .made c in
     (c, rw (m .0, m .1 e) (record { inv = formed-inv nobody 0 [] refl well-empty; owner = refl; count = refl; empty = refl }))
 
 -- what one call does, case by case
@@ -207,10 +207,10 @@ inv-after o c q v x =
     let t = step mutex-kind mutex-lawful plain (record { num = mk o c; queue = q }) x (record { numbers = inv-formed o c q v; queue = v .queue }) in
     formed-inv _ _ _ (t .numbers) (t .queue)
 
-abbrev Tries : ℕ → Owner → ℕ → List ℕ → Type 0
-Tries i o c q = TryLock i (mk o c) q (tryLockOut i (mk o c) q .turn .code) (tryLockOut i (mk o c) q .num) (tryLockOut i (mk o c) q .turn .queue)
+abbrev TryLockMet : ℕ → Owner → ℕ → List ℕ → Type 0
+TryLockMet i o c q = TryLock i (mk o c) q (tryLockOut i (mk o c) q .turn .code) (tryLockOut i (mk o c) q .num) (tryLockOut i (mk o c) q .turn .queue)
 
-tries-free : (i c : ℕ) (q : List ℕ) → Inv (mk nobody c) q → Tries i nobody c q
+tries-free : (i c : ℕ) (q : List ℕ) → Inv (mk nobody c) q → TryLockMet i nobody c q
 tries-free i c q v =
     let t = first-lock i c q (inv-formed nobody c q v) in
     record {
@@ -227,7 +227,7 @@ tries-free i c q v =
       other-count = nobody-else i;
     }
 
-tries-own : (i c : ℕ) (q : List ℕ) → Inv (mk (thread i) c) q → c < maxCount → Tries i (thread i) c q
+tries-own : (i c : ℕ) (q : List ℕ) → Inv (mk (thread i) c) q → c < maxCount → TryLockMet i (thread i) c q
 tries-own i c q v k =
     let t = next-lock i c q (inv-formed (thread i) c q v) k in
     record {
@@ -244,7 +244,7 @@ tries-own i c q v k =
       other-count = not-itself i;
     }
 
-tries-other : (i j c : ℕ) (q : List ℕ) → Inv (mk (thread j) c) q → (j ≡ i → ⊥) → Tries i (thread j) c q
+tries-other : (i j c : ℕ) (q : List ℕ) → Inv (mk (thread j) c) q → (j ≡ i → ⊥) → TryLockMet i (thread j) c q
 tries-other i j c q v n =
     let t = other-lock i c q j (inv-formed (thread j) c q v) n in
     record {
@@ -262,19 +262,19 @@ tries-other i j c q v n =
     }
 
 -- upstream's premise of the count is needed of the owner alone
-tries : (i : ℕ) (o : Owner) (c : ℕ) (q : List ℕ) → Inv (mk o c) q → (o ≡ thread i → c < maxCount) → Tries i o c q
+tries : (i : ℕ) (o : Owner) (c : ℕ) (q : List ℕ) → Inv (mk o c) q → (o ≡ thread i → c < maxCount) → TryLockMet i o c q
 tries i nobody c q v l = tries-free i c q v
 tries i (thread j) c q v l = go (eqb j i) refl
   where
-    go : (b : Bool) → eqb j i ≡ b → Tries i (thread j) c q
+    go : (b : Bool) → eqb j i ≡ b → TryLockMet i (thread j) c q
     go true y = let z : j ≡ i = eqb-true j i y in rw z (tries-own i c q (rw z at v) (l (ap thread z)))
     go false y = tries-other i j c q v (eqb-false j i y)
 
 -- unlock
-abbrev Unlocks : ℕ → Owner → ℕ → List ℕ → Type 0
-Unlocks i o c q = Unlock i (mk o c) q (unlockOut i (mk o c) q .turn .code) (unlockOut i (mk o c) q .num) (unlockOut i (mk o c) q .turn .queue)
+abbrev UnlockMet : ℕ → Owner → ℕ → List ℕ → Type 0
+UnlockMet i o c q = Unlock i (mk o c) q (unlockOut i (mk o c) q .turn .code) (unlockOut i (mk o c) q .num) (unlockOut i (mk o c) q .turn .queue)
 
-unlocks-free : (i c : ℕ) (q : List ℕ) → Inv (mk nobody c) q → Unlocks i nobody c q
+unlocks-free : (i c : ℕ) (q : List ℕ) → Inv (mk nobody c) q → UnlockMet i nobody c q
 unlocks-free i c q v =
     let t = not-locked i c q (inv-formed nobody c q v) in
     record {
@@ -299,7 +299,7 @@ unlocks-free i c q v =
       last-waiters = no-owner i;
     }
 
-unlocks-other : (i j c : ℕ) (q : List ℕ) → Inv (mk (thread j) c) q → (j ≡ i → ⊥) → Unlocks i (thread j) c q
+unlocks-other : (i j c : ℕ) (q : List ℕ) → Inv (mk (thread j) c) q → (j ≡ i → ⊥) → UnlockMet i (thread j) c q
 unlocks-other i j c q v n =
     let t = not-owner i c q j (inv-formed (thread j) c q v) n in
     record {
@@ -325,7 +325,7 @@ unlocks-other i j c q v n =
     }
 
 -- the owner's, by its locks and by who waits
-unlocks-own : (i c : ℕ) (q : List ℕ) → Inv (mk (thread i) c) q → Unlocks i (thread i) c q
+unlocks-own : (i c : ℕ) (q : List ℕ) → Inv (mk (thread i) c) q → UnlockMet i (thread i) c q
 unlocks-own i c q v =
     record {
       inv = inv-after (thread i) c q v (calls i unlock);
@@ -369,11 +369,11 @@ unlocks-own i c q v =
         go [] h = rw (now-free i c k) p
         go (x ∷ m) h = absurd (omega arith)
 
-unlocks : (i : ℕ) (o : Owner) (c : ℕ) (q : List ℕ) → Inv (mk o c) q → Unlocks i o c q
+unlocks : (i : ℕ) (o : Owner) (c : ℕ) (q : List ℕ) → Inv (mk o c) q → UnlockMet i o c q
 unlocks i nobody c q v = unlocks-free i c q v
 unlocks i (thread j) c q v = go (eqb j i) refl
   where
-    go : (b : Bool) → eqb j i ≡ b → Unlocks i (thread j) c q
+    go : (b : Bool) → eqb j i ≡ b → UnlockMet i (thread j) c q
     go true y = let z : j ≡ i = eqb-true j i y in rw z (unlocks-own i c q (rw z at v))
     go false y = unlocks-other i j c q v (eqb-false j i y)
 
@@ -413,70 +413,74 @@ locked nobody c q v = record { owner = inr (refl, λ k. clash (sym k)); count = 
 locked (thread i) c q v = record { owner = inl (refl, refl); count = inl (refl, v .counted refl) }
 
 -- the functions on memory
-module _ (h e : List ℕ) (r : ℤ) (h' e' : List ℕ) (m : Housed layout h e) (v : Inv (layout .num h) (waiting e (getD h 3 0))) where
+module _ (h e : List ℕ) (r : ℤ) (h' : List ℕ) (m : Housed layout h e) (v : Inv (layout .num h) (waiting e (getD h 3 0))) where
   abbrev own : Owner
   own = layout .num h .owner
 
-  pub mutex-try-lock : (i : ℕ) → (own ≡ thread i → getD h 2 0 < maxCount) → Does layout (tryLockOut i) h e r h' e'
-      → TryLock i (layout .num h) (waiting e (getD h 3 0)) r (layout .num h') (waiting e' (getD h' 3 0))
+  pub mutex-try-lock : (i : ℕ) → (own ≡ thread i → getD h 2 0 < maxCount) → TriesLock i h e r h'
+      → TryLock i (layout .num h) (waiting e (getD h 3 0)) r (layout .num h') (waiting e (getD h' 3 0))
   mutex-try-lock i l d =
-      shown layout (tryLockOut i) (TryLock i (layout .num h) (waiting e (getD h 3 0))) h e r h' e' d m (tries i own (getD h 2 0) (waiting e (getD h 3 0)) v l)
+      shown layout (tryLockOut i) (TryLock i (layout .num h) (waiting e (getD h 3 0))) h e r h' e (d .0) m (tries i own (getD h 2 0) (waiting e (getD h 3 0)) v l)
 
-  pub mutex-lock-blocking : (i p : ℕ) → i < 4294967296 → p < maxPriority → Another i own → length (waiting e (getD h 3 0)) < maxWaiters
+  pub mutex-lock-blocking : (i p : ℕ) (e' : List ℕ) → i < 4294967296 → p < maxPriority → Another i own → length (waiting e (getD h 3 0)) < maxWaiters
       → holds i (waiting e (getD h 3 0)) ≡ false
-      → Does layout (lockOut i p running) h e r h' e' → LockBlocking (layout .num h) (waiting e (getD h 3 0)) r (layout .num h') (waiting e' (getD h' 3 0))
-  mutex-lock-blocking i p small valid a room absent d =
-      shown layout (lockOut i p running) (LockBlocking (layout .num h) (waiting e (getD h 3 0))) h e r h' e' d m
+      → Locks i p running h e r h' e' → LockBlocking (layout .num h) (waiting e (getD h 3 0)) r (layout .num h') (waiting e' (getD h' 3 0))
+  mutex-lock-blocking i p e' small valid a room absent d =
+      shown layout (lockOut i p running) (LockBlocking (layout .num h) (waiting e (getD h 3 0))) h e r h' e' (d .0) m
       (rw (a .is) (blocks i p (a .who) (getD h 2 0) (waiting e (getD h 3 0)) small valid (rw (a .is) at v) (a .other) room absent))
 
   -- upstream demands another's; what is free or its own, the thread gets as by try_lock
-  pub mutex-lock-takes : (i p : ℕ) → p < maxPriority → (own ≡ nobody) ⊎ (own ≡ thread i) → Does layout (lockOut i p running) h e r h' e'
+  pub mutex-lock-takes : (i p : ℕ) (e' : List ℕ) → p < maxPriority → (own ≡ nobody) ⊎ (own ≡ thread i) → Locks i p running h e r h' e'
       → Does layout (tryLockOut i) h e r h' e'
-  mutex-lock-takes i p k o d =
+  mutex-lock-takes i p e' k o d =
       alike layout (lockOut i p running) (tryLockOut i) h e r h' e'
-      (is-on layout (lockOut i p running) h e m ∙ lock-same i p own (getD h 2 0) (waiting e (getD h 3 0)) k o ∙ sym (is-on layout (tryLockOut i) h e m)) d
+      (is-on layout (lockOut i p running) h e m ∙ lock-same i p own (getD h 2 0) (waiting e (getD h 3 0)) k o ∙ sym (is-on layout (tryLockOut i) h e m)) (d .0)
 
-  pub mutex-unlock : (i : ℕ) → Does layout (unlockOut i) h e r h' e'
-      → Unlock i (layout .num h) (waiting e (getD h 3 0)) r (layout .num h') (waiting e' (getD h' 3 0))
-  mutex-unlock i d =
-      shown layout (unlockOut i) (Unlock i (layout .num h) (waiting e (getD h 3 0))) h e r h' e' d m (unlocks i own (getD h 2 0) (waiting e (getD h 3 0)) v)
+  pub mutex-unlock : (i w w' : ℕ) → Unlocks i h e w r h' w'
+      → Unlock i (layout .num h) (waiting e (getD h 3 0)) r (layout .num h') (waiting e (getD h' 3 0))
+  mutex-unlock i w w' d =
+      shown layout (unlockOut i) (Unlock i (layout .num h) (waiting e (getD h 3 0))) h e r h' e (d .0 .0) m (unlocks i own (getD h 2 0) (waiting e (getD h 3 0)) v)
 
   gets : (g : Mutex → List ℕ → ℤ) → r ≡ on layout (getOut g) h e .turn .code → r ≡ g (layout .num h) (waiting e (getD h 3 0))
   gets g d = d ∙ rw (is-on layout (getOut g) h e m, inv-formed own (getD h 2 0) (waiting e (getD h 3 0)) v)
 
-  pub is-locked : r ≡ on layout (getOut (λ m q. isLocked m)) h e .turn .code → IsLocked (layout .num h) r
+  pub is-locked : SaysLocked h e r → IsLocked (layout .num h) r
   is-locked d = rw (gets (λ m q. isLocked m) d) (locked own (getD h 2 0) (waiting e (getD h 3 0)) v)
 
-  pub lock-count-get : r ≡ on layout (getOut (λ m q. pos (m .count))) h e .turn .code → LockCountGet (layout .num h) r
+  pub lock-count-get : GetsLockCount h e r → LockCountGet (layout .num h) r
   lock-count-get d = gets (λ m q. pos (m .count)) d
 
-  pub num-waiters : r ≡ on layout (getOut (λ m q. pos (length q))) h e .turn .code → NumWaiters (waiting e (getD h 3 0)) r
+  pub num-waiters : CountsWaiters h e r → NumWaiters (waiting e (getD h 3 0)) r
   num-waiters d = gets (λ m q. pos (length q)) d
 
-  pub owner-get : r ≡ on layout (getOut (λ m q. ownerId (m .owner))) h e .turn .code → OwnerGet (layout .num h) r
+  pub owner-get : GetsOwner h e r → OwnerGet (layout .num h) r
   owner-get d = gets (λ m q. ownerId (m .owner)) d
 
   -- upstream demands fewer than 2^32 - 1 locks; the owner that has as many is refused
-  pub overflow-refuses : (i : ℕ) → own ≡ thread i → getD h 2 0 ≡ maxCount → Does layout (tryLockOut i) h e r h' e' → (r ≡ eoverflow) × (h' ≡ h) × (e' ≡ e)
+  pub overflow-refuses : (i : ℕ) → own ≡ thread i → getD h 2 0 ≡ maxCount → TriesLock i h e r h' → (r ≡ eoverflow) × (h' ≡ h)
   overflow-refuses i o k d =
       let f = inv-formed (thread i) (getD h 2 0) (waiting e (getD h 3 0)) (rw o at v) in
       let y : on layout (tryLockOut i) h e .turn .code
       ≡ eoverflow = rw (is-on layout (tryLockOut i) h e m, o, no-lock i (getD h 2 0) (waiting e (getD h 3 0)) f k) in
-      unchanged layout (tryLockOut i) h e r h' e' 138 d y
+      let u = unchanged layout (tryLockOut i) h e r h' e 138 (d .0) y in
+      (u .0, u .1)
 
 -- what upstream demands is refused here: a header that is not as it should be
-module _ (h e : List ℕ) (r : ℤ) (h' e' : List ℕ) (s : sane mutex-kind layout h e ≡ false) where
+module _ (h e : List ℕ) (r : ℤ) (h' : List ℕ) (s : sane mutex-kind layout h e ≡ false) where
   abbrev Stays : Type 0
-  Stays = (r ≡ einval) × (h' ≡ h) × (e' ≡ e)
+  Stays = (r ≡ einval) × (h' ≡ h)
 
-  pub try-lock-refuses : (i : ℕ) → Does layout (tryLockOut i) h e r h' e' → Stays
-  try-lock-refuses i d = barred mutex-kind layout h e (tryLockOut i) r h' e' (λ n q z. rw z) s d
+  read : (r ≡ einval) × (h' ≡ h) × (e ≡ e) → Stays
+  read k = (k .0, k .1)
 
-  pub lock-refuses : (i p st : ℕ) → Does layout (lockOut i p st) h e r h' e' → Stays
-  lock-refuses i p st d = barred mutex-kind layout h e (lockOut i p st) r h' e' (λ n q z. rw z) s d
+  pub try-lock-refuses : (i : ℕ) → TriesLock i h e r h' → Stays
+  try-lock-refuses i d = read (barred mutex-kind layout h e (tryLockOut i) r h' e (λ n q z. rw z) s (d .0))
 
-  pub unlock-refuses : (i : ℕ) → Does layout (unlockOut i) h e r h' e' → Stays
-  unlock-refuses i d = barred mutex-kind layout h e (unlockOut i) r h' e' (λ n q z. rw z) s d
+  pub lock-refuses : (i p st : ℕ) (e' : List ℕ) → Locks i p st h e r h' e' → Stays × (e' ≡ e)
+  lock-refuses i p st e' d = let k = barred mutex-kind layout h e (lockOut i p st) r h' e' (λ n q z. rw z) s (d .0) in ((k .0, k .1), k .2)
+
+  pub unlock-refuses : (i w w' : ℕ) → Unlocks i h e w r h' w' → Stays
+  unlock-refuses i w w' d = read (barred mutex-kind layout h e (unlockOut i) r h' e (λ n q z. rw z) s (d .0 .0))
 
   pub get-refuses : (g : Mutex → List ℕ → ℤ) → r ≡ on layout (getOut g) h e .turn .code → r ≡ einval
   get-refuses g d = d ∙ ap (λ (o : Out Mutex). o .turn .code) (malformed mutex-kind layout h e (getOut g) (λ n q z. rw z) s)

@@ -13,13 +13,13 @@ use Rattle.thread.specs.Code.{ok, enomem, ebusy}
 use Rattle.thread.specs.Caller.{callerCode}
 use Rattle.wait_queue.specs.Queue.{maxWaiters, entry, ident, prio, waiting, roomy, holds, joined}
 use Rattle.wait_queue.specs.Turn.{refuse, asked, at, waits, pend, unpendFirst}
-use Rattle.wait_queue.specs.Post.{Does}
+use Rattle.wait_queue.specs.Post.{Does, Pends}
 use Rattle.mutex.specs.Post.{Written}
 use Rattle.mutex.proofs.Answers.{four}
 
 -- a queue does not become shorter by who joins it, and does by who is woken
 module _ (n : ℕ) (e : List ℕ) (r : ℤ) (m : ℕ) (e' : List ℕ) where
-  pub no-shorter : (i p st : ℕ) → Does (pend i p st) n e r m e' → n ≤ m
+  pub no-shorter : (i p st : ℕ) → Pends i p st n e r m e' → n ≤ m
   no-shorter i p st d =
       let l : m ≡ length (at (pend i p st) n e .queue) = sym (back-length e' m) ∙ ap length (d .queue) in
       let b = back-length e n in
@@ -83,7 +83,7 @@ module _ (h : List ℕ) (k : 4 ≤ length h) where
 
   module _ (e : List ℕ) (r : ℤ) (m : ℕ) (e' : List ℕ) where
     -- a thread waits, or is refused
-    pub joins : (i p st : ℕ) → Does (pend i p st) (getD h 3 0) e r m e' → Written h (set h 3 m)
+    pub joins : (i p st : ℕ) → Pends i p st (getD h 3 0) e r m e' → Written h (set h 3 m)
     joins i p st d =
         let l : getD (set h 3 m) 3 0 ≡ m = rw (four h k .is) refl in
         stays h (set h 3 m) (rw (four h k .is) refl) (rw (four h k .is) refl) (omega (arith, no-shorter (getD h 3 0) e r m e' i p st d))

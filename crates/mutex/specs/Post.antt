@@ -6,14 +6,15 @@ use mathlib.Core.List.{List, map}
 use Prim.Native.Nat.{ℕ, _≤_, _<_}
 use lib.Dec.{eqb, ltb}
 use lib.IntN.{ℤ, pos}
-use lib.ListN.{getD}
+use lib.ListN.{length, getD}
 use Rattle.seq.specs.List.{any}
 use Rattle.thread.specs.Code.{enoent}
 use Rattle.wait_queue.specs.Queue.{ident, waiting, holds, Well}
 use Rattle.kind.specs.Verdict.{keep, park, wake, Verdict, deny, allow}
 use Rattle.kind.specs.Kind.{judge, plain}
 use Rattle.kind.specs.Object as object
-use Rattle.kind.specs.Object.{Out, named, anyone, carried, call, looks, Layout, Started, sane}
+use Rattle.kind.specs.Object.{Out, named, anyone, carried, call, looks, Layout, on, Does, Started, sane}
+use Rattle.kind.specs.Post.{Tells}
 use Rattle.mutex.specs.Mutex.{Owner, nobody, thread, Mutex, Call, lock, tryLock, unlock, release, held, formed, free, unlocked, passes, mutex-kind}
 
 abbrev pub ownerIn : ℕ → ℕ → Owner
@@ -53,10 +54,6 @@ abbrev pub ownerId : Owner → ℤ
 ownerId nobody = enoent
 ownerId (thread i) = pos i
 
--- a new mutex
-abbrev pub Starts : List ℕ → ℤ → List ℕ → Type 0
-Starts = Started mutex-kind layout free
-
 -- how the owner is written, in a header that was h and is h': what the numbers leave open
 pub record Written (h h' : List ℕ) : Type 0 where
   -- one that found it free, and one that waited until now, is flagged by 1
@@ -72,8 +69,42 @@ abbrev pub apart : Owner → List ℕ → Bool
 apart nobody q = true
 apart (thread i) q = cond (holds i q) false true
 
+-- The contract of each public function: its numbers, what it is lent, its answer, and what it leaves.
+
+-- a new mutex
+abbrev pub Starts : List ℕ → ℤ → List ℕ → Type 0
+Starts h r h' = Started mutex-kind layout free h r h' × Written h h'
+
+abbrev pub TriesLock : ℕ → List ℕ → List ℕ → ℤ → List ℕ → Type 0
+TriesLock i h e r h' = Does layout (tryLockOut i) h e r h' e × Written h h'
+
+abbrev pub Locks : ℕ → ℕ → ℕ → List ℕ → List ℕ → ℤ → List ℕ → List ℕ → Type 0
+Locks i p st h e r h' e' = Does layout (lockOut i p st) h e r h' e' × Written h h'
+
+abbrev pub Passes : List ℕ → List ℕ → ℕ → ℤ → List ℕ → ℕ → Type 0
+Passes h e w r h' w' = Tells layout passOut h e w r h' w' × Written h h'
+
+abbrev pub Unlocks : ℕ → List ℕ → List ℕ → ℕ → ℤ → List ℕ → ℕ → Type 0
+Unlocks i h e w r h' w' = Tells layout (unlockOut i) h e w r h' w' × Written h h'
+
+-- what a wait that gives the mutex back would be answered by it
+abbrev pub ReleaseDecided : ℕ → ℕ → ℕ → List ℕ → List ℕ → ℤ → Type 0
+ReleaseDecided i p st h e r = r ≡ on layout (releaseOut i p st) h e .turn .code
+
+abbrev pub SaysLocked : List ℕ → List ℕ → ℤ → Type 0
+SaysLocked h e r = r ≡ on layout (getOut (λ m q. isLocked m)) h e .turn .code
+
+abbrev pub GetsLockCount : List ℕ → List ℕ → ℤ → Type 0
+GetsLockCount h e r = r ≡ on layout (getOut (λ m q. pos (m .count))) h e .turn .code
+
+abbrev pub CountsWaiters : List ℕ → List ℕ → ℤ → Type 0
+CountsWaiters h e r = r ≡ on layout (getOut (λ m q. pos (length q))) h e .turn .code
+
+abbrev pub GetsOwner : List ℕ → List ℕ → ℤ → Type 0
+GetsOwner h e r = r ≡ on layout (getOut (λ m q. ownerId (m .owner))) h e .turn .code
+
 -- the answer is true exactly if the whole mutex is as it should be
-pub record Audited (h e : List ℕ) (r : Bool) : Type 0 where
+pub record Audits (h e : List ℕ) (r : Bool) : Type 0 where
   pub sound : r ≡ true → (sane mutex-kind layout h e ≡ true) × Well (waiting e (getD h 3 0)) × (apart (layout .num h .owner) (waiting e (getD h 3 0)) ≡ true)
   pub complete : (sane mutex-kind layout h e ≡ true) × Well (waiting e (getD h 3 0)) × (apart (layout .num h .owner) (waiting e (getD h 3 0)) ≡ true) → r ≡ true
 

@@ -130,7 +130,7 @@ pub record Unlock (i : ℕ) (m : Mutex) (q : List ℕ) (r : ℤ) (m' : Mutex) (q
 
 -- what unlock's clauses leave out, of the owner's: the answer, and who becomes the owner and is woken. w is the word for the woken thread before
 -- the call, w' after it
-pub record Unlocks (i : ℕ) (m : Mutex) (q : List ℕ) (w : ℕ) (r : ℤ) (m' : Mutex) (q' : List ℕ) (w' : ℕ) : Type 0 where
+pub record UnlockInFull (i : ℕ) (m : Mutex) (q : List ℕ) (w : ℕ) (r : ℤ) (m' : Mutex) (q' : List ℕ) (w' : ℕ) : Type 0 where
   -- one lock less; the same threads wait, in the same order, and the word stays as it was
   pub nested : m .owner ≡ thread i → 1 < m .count → Leaves released (counting (m .count - 1) m) q r m' q' × (w' ≡ w)
   -- the last, where somebody waits: the first owns it, with one lock, and is woken with the result 0

@@ -9,14 +9,11 @@ use thread::OK;
 use thread::RUNNING;
 ghost use mathlib.Core.Path.{_≡_};
 ghost use mathlib.Core.Bool.{true};
-ghost use Prim.Native.Nat.{ℕ, _<_};
-ghost use mathlib.Core.List.{List};
-ghost use lib.IntN.{pos};
-ghost use lib.ListN.{length, getD};
-ghost use Rattle.wait_queue.specs.Post.{Told};
-ghost use Rattle.kind.specs.Object.{on, Does, sized, sane};
-ghost use Rattle.mutex.specs.Mutex.{Mutex, formed as formedMutex, mutex-kind};
-ghost use Rattle.mutex.specs.Post.{ownerIn, layout, tryLockOut, unlockOut, lockOut, passOut, releaseOut, getOut, isLocked, ownerId, Starts, Written, Audited, LockDecided, UnlockDecided};
+ghost use Prim.Native.Nat.{_<_};
+ghost use lib.ListN.{getD};
+ghost use Rattle.kind.specs.Object.{sized, sane};
+ghost use Rattle.mutex.specs.Mutex.{formed as formedMutex, mutex-kind};
+ghost use Rattle.mutex.specs.Post.{ownerIn, layout, Starts, TriesLock, Locks, Passes, Unlocks, ReleaseDecided, SaysLocked, GetsLockCount, CountsWaiters, GetsOwner, Audits, LockDecided, UnlockDecided};
 
 // What an unlock did: Gale's UnlockResult.
 pub const RELEASED: i32 = 0;
@@ -111,7 +108,6 @@ pub fn unlock_decide(lock_count: u32, owner_is_null: bool, owner_is_current: boo
 // OK: it is free.
 pub fn init(h: &mut [u32]) -> i32
     ensures { λ r. ⌜ Starts (now (h .entry)) r (now (h .exit)) ⌝ }
-    ensures { λ r. ⌜ Written (now (h .entry)) (now (h .exit)) ⌝ }
 {
     if h.len() < 4 {
         return EINVAL;
@@ -124,8 +120,7 @@ pub fn init(h: &mut [u32]) -> i32
 
 // OK: the thread owns it, with one lock more; EBUSY: another does; EOVERFLOW.
 pub fn try_lock(h: &mut [u32], e: &[u64], id: u32) -> i32
-    ensures { λ r. ⌜ Does layout (tryLockOut id) (now (h .entry)) (now (e .entry)) r (now (h .exit)) (now (e .entry)) ⌝ }
-    ensures { λ r. ⌜ Written (now (h .entry)) (now (h .exit)) ⌝ }
+    ensures { λ r. ⌜ TriesLock id (now (h .entry)) (now (e .entry)) r (now (h .exit)) ⌝ }
 {
     if !formed(h, e) {
         return EINVAL;
@@ -150,8 +145,7 @@ pub fn try_lock(h: &mut [u32], e: &[u64], id: u32) -> i32
 // A mutex with no lock: free, or malformed.
 fn seize(h: &mut [u32], e: &[u64], id: u32, priority: u32, state: u32) -> i32
     requires { ⌜ (sized 4 (now h) (now e) ≡ true) × (getD (now h) 2 0 ≡ 0) ⌝ }
-    ensures { λ r. ⌜ Does layout (lockOut id priority state) (now (h .entry)) (now (e .entry)) r (now (h .exit)) (now (e .entry)) ⌝ }
-    ensures { λ r. ⌜ Written (now (h .entry)) (now (h .exit)) ⌝ }
+    ensures { λ r. ⌜ Locks id priority state (now (h .entry)) (now (e .entry)) r (now (h .exit)) (now (e .entry)) ⌝ }
 {
     if 0 < h[0] {
         return EINVAL;
@@ -174,8 +168,7 @@ fn seize(h: &mut [u32], e: &[u64], id: u32, priority: u32, state: u32) -> i32
 // The thread's own mutex.
 fn nest(h: &mut [u32], e: &[u64], id: u32, priority: u32, state: u32) -> i32
     requires { ⌜ (sized 4 (now h) (now e) ≡ true) × (0 < getD (now h) 0 0) × (0 < getD (now h) 2 0) × (getD (now h) 1 0 ≡ id) ⌝ }
-    ensures { λ r. ⌜ Does layout (lockOut id priority state) (now (h .entry)) (now (e .entry)) r (now (h .exit)) (now (e .entry)) ⌝ }
-    ensures { λ r. ⌜ Written (now (h .entry)) (now (h .exit)) ⌝ }
+    ensures { λ r. ⌜ Locks id priority state (now (h .entry)) (now (e .entry)) r (now (h .exit)) (now (e .entry)) ⌝ }
 {
     if !wait_queue::fits(h[3], e) {
         return EINVAL;
@@ -196,8 +189,7 @@ fn nest(h: &mut [u32], e: &[u64], id: u32, priority: u32, state: u32) -> i32
 
 // OK: the thread owns it, with one lock more; WAITS: it waits, behind all of equal or higher priority.
 pub fn lock_blocking(h: &mut [u32], e: &mut [u64], id: u32, priority: u32, state: u32) -> i32
-    ensures { λ r. ⌜ Does layout (lockOut id priority state) (now (h .entry)) (now (e .entry)) r (now (h .exit)) (now (e .exit)) ⌝ }
-    ensures { λ r. ⌜ Written (now (h .entry)) (now (h .exit)) ⌝ }
+    ensures { λ r. ⌜ Locks id priority state (now (h .entry)) (now (e .entry)) r (now (h .exit)) (now (e .exit)) ⌝ }
 {
     if !kind::housed(h, 4, e) {
         return EINVAL;
@@ -216,9 +208,7 @@ pub fn lock_blocking(h: &mut [u32], e: &mut [u64], id: u32, priority: u32, state
 
 // The last unlock, whoever calls and whatever the numbers are: UNLOCKED; TRANSFERRED: who is to be made ready, with 0, owns it now.
 pub fn pass(h: &mut [u32], e: &[u64], who: &mut u64) -> i32
-    ensures { λ r. ⌜ Does layout passOut (now (h .entry)) (now (e .entry)) r (now (h .exit)) (now (e .entry)) ⌝ }
-    ensures { λ r. ⌜ Told (on layout passOut (now (h .entry)) (now (e .entry)) .turn .woken) (now (who .entry)) (now (who .exit)) ⌝ }
-    ensures { λ r. ⌜ Written (now (h .entry)) (now (h .exit)) ⌝ }
+    ensures { λ r. ⌜ Passes (now (h .entry)) (now (e .entry)) (now (who .entry)) r (now (h .exit)) (now (who .exit)) ⌝ }
 {
     if h.len() < 4 {
         return EINVAL;
@@ -243,9 +233,7 @@ pub fn pass(h: &mut [u32], e: &[u64], who: &mut u64) -> i32
 
 // RELEASED: the thread owns it still; UNLOCKED: it is free; TRANSFERRED: who is to be made ready, with 0, owns it now; EPERM: another owns it.
 pub fn unlock(h: &mut [u32], e: &[u64], id: u32, who: &mut u64) -> i32
-    ensures { λ r. ⌜ Does layout (unlockOut id) (now (h .entry)) (now (e .entry)) r (now (h .exit)) (now (e .entry)) ⌝ }
-    ensures { λ r. ⌜ Told (on layout (unlockOut id) (now (h .entry)) (now (e .entry)) .turn .woken) (now (who .entry)) (now (who .exit)) ⌝ }
-    ensures { λ r. ⌜ Written (now (h .entry)) (now (h .exit)) ⌝ }
+    ensures { λ r. ⌜ Unlocks id (now (h .entry)) (now (e .entry)) (now (who .entry)) r (now (h .exit)) (now (who .exit)) ⌝ }
 {
     if !kind::housed(h, 4, e) {
         return EINVAL;
@@ -272,7 +260,7 @@ pub fn unlock(h: &mut [u32], e: &[u64], id: u32, who: &mut u64) -> i32
 
 // What a wait at a condition variable would do to the mutex: UNLOCKED, TRANSFERRED; EPERM, EDEADLK: the thread holds it more than once.
 pub fn release_decide(h: &[u32], e: &[u64], id: u32, priority: u32, state: u32) -> i32
-    ensures { λ r. ⌜ r ≡ on layout (releaseOut id priority state) (now (h .entry)) (now (e .entry)) .turn .code ⌝ }
+    ensures { λ r. ⌜ ReleaseDecided id priority state (now (h .entry)) (now (e .entry)) r ⌝ }
 {
     if !formed(h, e) {
         return EINVAL;
@@ -301,7 +289,7 @@ pub fn release_decide(h: &[u32], e: &[u64], id: u32, priority: u32, state: u32) 
 
 // 1: somebody owns it; 0: nobody.
 pub fn is_locked(h: &[u32], e: &[u64]) -> i32
-    ensures { λ r. ⌜ r ≡ on layout (getOut (λ (m : Mutex) (q : List ℕ). isLocked m)) (now (h .entry)) (now (e .entry)) .turn .code ⌝ }
+    ensures { λ r. ⌜ SaysLocked (now (h .entry)) (now (e .entry)) r ⌝ }
 {
     if !formed(h, e) {
         return EINVAL;
@@ -313,7 +301,7 @@ pub fn is_locked(h: &[u32], e: &[u64]) -> i32
 }
 
 pub fn lock_count_get(h: &[u32], e: &[u64]) -> i64
-    ensures { λ r. ⌜ r ≡ on layout (getOut (λ (m : Mutex) (q : List ℕ). pos (m .count))) (now (h .entry)) (now (e .entry)) .turn .code ⌝ }
+    ensures { λ r. ⌜ GetsLockCount (now (h .entry)) (now (e .entry)) r ⌝ }
 {
     if !formed(h, e) {
         return -22;
@@ -322,7 +310,7 @@ pub fn lock_count_get(h: &[u32], e: &[u64]) -> i64
 }
 
 pub fn num_waiters(h: &[u32], e: &[u64]) -> i64
-    ensures { λ r. ⌜ r ≡ on layout (getOut (λ (m : Mutex) (q : List ℕ). pos (length q))) (now (h .entry)) (now (e .entry)) .turn .code ⌝ }
+    ensures { λ r. ⌜ CountsWaiters (now (h .entry)) (now (e .entry)) r ⌝ }
 {
     if !formed(h, e) {
         return -22;
@@ -332,7 +320,7 @@ pub fn num_waiters(h: &[u32], e: &[u64]) -> i64
 
 // The owner; -2: nobody.
 pub fn owner_get(h: &[u32], e: &[u64]) -> i64
-    ensures { λ r. ⌜ r ≡ on layout (getOut (λ (m : Mutex) (q : List ℕ). ownerId (m .owner))) (now (h .entry)) (now (e .entry)) .turn .code ⌝ }
+    ensures { λ r. ⌜ GetsOwner (now (h .entry)) (now (e .entry)) r ⌝ }
 {
     if !formed(h, e) {
         return -22;
@@ -345,7 +333,7 @@ pub fn owner_get(h: &[u32], e: &[u64]) -> i64
 
 // Whether the whole mutex is well formed.
 pub fn audit(h: &[u32], e: &[u64]) -> bool
-    ensures { λ r. ⌜ Audited (now (h .entry)) (now (e .entry)) r ⌝ }
+    ensures { λ r. ⌜ Audits (now (h .entry)) (now (e .entry)) r ⌝ }
 {
     if !formed(h, e) {
         return false;

@@ -245,21 +245,24 @@ module _ (h e : List ℕ) (r : ℤ) (h' : List ℕ) (m : Housed layout h e) (i :
 
 -- what upstream demands is refused here: a header that is not as it should be
 module _ (h e : List ℕ) (r : ℤ) (h' : List ℕ) (s : sane sem-kind layout h e ≡ false) where
-  abbrev Stays : List ℕ → Type 0
-  Stays e' = (r ≡ einval) × (h' ≡ h) × (e' ≡ e)
+  abbrev Stays : Type 0
+  Stays = (r ≡ einval) × (h' ≡ h)
 
-  pub give-refuses : (w w' : ℕ) → Gives h e w r h' w' → Stays e
-  give-refuses w w' d = barred sem-kind layout h e giveOut r h' e (λ n q z. rw z) s (d .0)
+  read : (r ≡ einval) × (h' ≡ h) × (e ≡ e) → Stays
+  read k = (k .0, k .1)
 
-  pub try-take-refuses : TriesTake h e r h' → Stays e
-  try-take-refuses d = barred sem-kind layout h e tryTakeOut r h' e (λ n q z. rw z) s d
+  pub give-refuses : (w w' : ℕ) → Gives h e w r h' w' → Stays
+  give-refuses w w' d = read (barred sem-kind layout h e giveOut r h' e (λ n q z. rw z) s (d .0))
 
-  pub take-refuses : (j p st : ℕ) (e' : List ℕ) → Takes j p st h e r h' e' → Stays e'
-  take-refuses j p st e' d = barred sem-kind layout h e (takeOut j p st) r h' e' (λ n q z. rw z) s d
+  pub try-take-refuses : TriesTake h e r h' → Stays
+  try-take-refuses d = read (barred sem-kind layout h e tryTakeOut r h' e (λ n q z. rw z) s d)
 
-  pub reset-refuses : (out out' : List ℕ) → Resets h e out r h' out' → Stays e
+  pub take-refuses : (j p st : ℕ) (e' : List ℕ) → Takes j p st h e r h' e' → Stays × (e' ≡ e)
+  take-refuses j p st e' d = let k = barred sem-kind layout h e (takeOut j p st) r h' e' (λ n q z. rw z) s d in ((k .0, k .1), k .2)
+
+  pub reset-refuses : (out out' : List ℕ) → Resets h e out r h' out' → Stays
   reset-refuses out out' d =
-      barred sem-kind layout h e (resetOut (length out)) r h' e (handed-no sem-kind plain anyone reset (length out)) s (d .0)
+      read (barred sem-kind layout h e (resetOut (length out)) r h' e (handed-no sem-kind plain anyone reset (length out)) s (d .0))
 
   pub get-refuses : (g : Sem → List ℕ → ℕ) → r ≡ on layout (getOut g) h e .turn .code → r ≡ einval
   get-refuses g d = d ∙ ap (λ (o : Out Sem). o .turn .code) (malformed sem-kind layout h e (getOut g) (λ n q z. rw z) s)

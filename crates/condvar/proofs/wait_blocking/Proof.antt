@@ -57,7 +57,7 @@ same-length-8 : tie.Need-same-length-8
 same-length-8 c = search needs
 
 returns-4 : tie.Need-returns-4
-returns-4 c = let a = c .before .before .before .before .before .before .before .before .before .before .before .before .before .before .before .before .before .before .before .args in let d = c .before .before .before .before .before .before .before .before .before .before .before .before .before .release-decide in let u = c .before .before .before .before .before .before .before .before .enter in let v = c .before .before .pass in let z = positive (d .result) (rw (answered {z = d .result} (d .ok)) at (c .before .before .before .before .before .before .before .before .before .before .before .before .if1 .left)) in let y = positive (u .result) (rw (answered {z = u .result} (u .ok)) at (c .before .before .before .before .before .if3 .left)) in rw (answered {z = d .result} (d .ok), z) (wait-both (a .id) (a .priority) (a .state) (a .h .now) (a .e .now) (a .mutex-h .now) (a .mutex-e .now) (a .who .now) (mag (d .result)) (sym (d .ensures) ∙ z) (omega arith) (u .result) (u .last .0) (u .last .1 .0) (wait-asked (a .id) (a .priority) (a .state) (a .h .now) (a .e .now) (a .mutex-h .now) (a .mutex-e .now) (a .who .now) (mag (d .result)) (sym (d .ensures) ∙ z) _ (u .result) (u .last .0) (u .last .1 .0) (u .ensures)) (mag (u .result)) y (v .last .0) (v .last .1 .1 .0) (v .result) (v .ensures .0) (v .ensures .1 .0) (v .ensures .1 .1))
+returns-4 c = let a = c .before .before .before .before .before .before .before .before .before .before .before .before .before .before .before .before .before .before .before .args in let d = c .before .before .before .before .before .before .before .before .before .before .before .before .before .release-decide in let u = c .before .before .before .before .before .before .before .before .enter in let v = c .before .before .pass in let z = positive (d .result) (rw (answered {z = d .result} (d .ok)) at (c .before .before .before .before .before .before .before .before .before .before .before .before .if1 .left)) in let y = positive (u .result) (rw (answered {z = u .result} (u .ok)) at (c .before .before .before .before .before .if3 .left)) in rw (answered {z = d .result} (d .ok), z) (wait-both (a .id) (a .priority) (a .state) (a .h .now) (a .e .now) (a .mutex-h .now) (a .mutex-e .now) (a .who .now) (mag (d .result)) (sym (d .ensures) ∙ z) (omega arith) (u .result) (u .last .0) (u .last .1 .0) (wait-asked (a .id) (a .priority) (a .state) (a .h .now) (a .e .now) (a .mutex-h .now) (a .mutex-e .now) (a .who .now) (mag (d .result)) (sym (d .ensures) ∙ z) _ (u .result) (u .last .0) (u .last .1 .0) (u .ensures)) (mag (u .result)) y (v .last .0) (v .last .1 .1 .0) (v .result) (v .ensures))
 
 pub wait-blocking-spec : {M : Type 1} → statement M
 wait-blocking-spec =

@@ -14,7 +14,7 @@ returns : tie.Need-returns
 returns c =
     let a = c .before .before .before .args in
     let t = pass-short (a .h .now) (a .e .now) (a .who .now) (omega arith) in
-    (t .0, (t .1, unwritten (a .h .now)))
+    (t, unwritten (a .h .now))
 
 slice-read-waits : tie.Need-slice-read-waits
 slice-read-waits c = search needs
@@ -26,7 +26,7 @@ returns-2 : tie.Need-returns-2
 returns-2 c =
     let a = c .before .before .before .before .before .before .args in
     let t = pass-no (a .h .now) (a .e .now) (a .who .now) (omega arith) (sym (c .before .fits2 .ensures) ∙ not-true _ (c .if2 .taken)) in
-    (t .0, (t .1, unwritten (a .h .now)))
+    (t, unwritten (a .h .now))
 
 slice-write-h : tie.Need-slice-write-h
 slice-write-h c = search needs
@@ -42,7 +42,7 @@ returns-3 c =
     let a = c .before .before .before .before .before .before .before .args in
     let t = pass-free (a .h .now) (a .e .now) (a .who .now) (omega arith) (sym (c .before .before .fits2 .ensures) ∙ not-false _ (c .before .if2 .left))
     (omega arith) in
-    (t .0, (t .1, frees (a .h .now) (omega arith)))
+    (t, frees (a .h .now) (omega arith))
 
 index-1-unpend-first : tie.Need-index-1-unpend-first
 index-1-unpend-first c = search needs
@@ -79,9 +79,11 @@ returns-4 c =
     let a = c .before .before .before .before .before .before .before .before .before .before .args in
     let u = c .unpend-first in
     let r = sym (c .before .before .before .before .before .fits2 .ensures) ∙ not-false _ (c .before .before .before .before .if2 .left) in
-    let t = pass-first (a .h .now) (a .e .now) (a .who .now) (omega arith) r (u .result) (u .last .0) (u .last .1 .1 .1 .0) (omega arith) (u .ensures .0)
-    (retold (a .h .now) (a .e .now) (a .who .now) (omega arith) r _ 0 (u .last .1 .1 .1 .0) (omega arith) r (u .ensures .1)) in
-    (t .0, (t .1, passes (a .h .now) (omega arith) (a .e .now) (u .result) (u .last .0) (a .e .now) _ r (omega arith) (u .ensures .0)))
+    let t = pass-first (a .h .now) (a .e .now) (a .who .now) (omega arith) r (u .result) (u .last .0) (u .last .1 .1 .1 .0) (omega arith) (
+      u .ensures .0,
+      retold (a .h .now) (a .e .now) (a .who .now) (omega arith) r _ 0 (u .last .1 .1 .1 .0) (omega arith) r (u .ensures .1),
+    ) in
+    (t, passes (a .h .now) (omega arith) (a .e .now) (u .result) (u .last .0) (a .e .now) _ r (omega arith) (u .ensures .0))
 
 pub pass-spec : {M : Type 1} → statement M
 pass-spec =

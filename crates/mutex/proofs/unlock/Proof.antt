@@ -20,7 +20,7 @@ returns c =
     let a = c .before .before .before .before .before .args in
     let t = unlock-no (a .h .now) (a .e .now) (a .id) (a .who .now)
     (small-no (a .h .now) (a .e .now) (sym (c .before .housed .ensures) ∙ not-true _ (c .if1 .taken))) in
-    (t .0, (t .1, unwritten (a .h .now)))
+    (t, unwritten (a .h .now))
 
 slice-read-held : tie.Need-slice-read-held
 slice-read-held c =
@@ -34,7 +34,7 @@ returns-2 : tie.Need-returns-2
 returns-2 c =
     let a = c .before .before .before .before .before .before .before .args in
     let t = unlock-lockless (a .h .now) (a .e .now) (a .id) (a .who .now) (omega arith) in
-    (t .0, (t .1, unwritten (a .h .now)))
+    (t, unwritten (a .h .now))
 
 slice-read-if3 : tie.Need-slice-read-if3
 slice-read-if3 c =
@@ -54,7 +54,7 @@ returns-3 c =
     let t = unlock-no (a .h .now) (a .e .now) (a .id) (a .who .now)
     (ownerless-no (a .h .now) (a .e .now) (sym (c .before .before .before .before .before .housed .ensures) ∙ not-false _
     (c .before .before .before .before .if1 .left)) (omega arith) (omega arith)) in
-    (t .0, (t .1, unwritten (a .h .now)))
+    (t, unwritten (a .h .now))
 
 slice-read-fits : tie.Need-slice-read-fits
 slice-read-fits c =
@@ -77,7 +77,7 @@ returns-4 c =
     let t = unlock-no (a .h .now) (a .e .now) (a .id) (a .who .now)
     (crowded-no (a .h .now) (a .e .now) (sym (c .before .before .before .before .before .before .before .before .housed .ensures) ∙ not-false _
     (c .before .before .before .before .before .before .before .if1 .left)) (sym (c .before .fits2 .ensures) ∙ not-true _ (c .if4 .taken))) in
-    (t .0, (t .1, unwritten (a .h .now)))
+    (t, unwritten (a .h .now))
 
 slice-read-if5 : tie.Need-slice-read-if5
 slice-read-if5 c =
@@ -100,7 +100,7 @@ returns-5 c =
     ∙ not-false _ (c .before .before .before .before .before .before .before .before .before .if1 .left)) (omega arith) (omega arith)
     (sym (c .before .before .before .fits2 .ensures) ∙ not-false _ (c .before .before .if4 .left)) in
     let t = unlock-other (a .h .now) (a .e .now) s (a .id) (a .who .now) (omega arith) (c .if5 .taken) in
-    (t .0, (t .1, unwritten (a .h .now)))
+    (t, unwritten (a .h .now))
 
 sub-h : tie.Need-sub-h
 sub-h c = search needs
@@ -126,7 +126,7 @@ returns-6 c =
     let s = held-yes (a .h .now) (a .e .now) z (omega arith) (omega arith)
     (sym (c .before .before .before .before .fits2 .ensures) ∙ not-false _ (c .before .before .before .if4 .left)) in
     let t = unlock-nested (a .h .now) (a .e .now) s (a .id) (a .who .now) (omega arith) (omega arith) in
-    (t .0, (t .1, counts (a .h .now) (its-words (a .h .now) (a .e .now) z) _))
+    (t, counts (a .h .now) (its-words (a .h .now) (a .e .now) z) _)
 
 pass-requires : tie.Need-pass-requires
 pass-requires c κs = search needs
@@ -141,8 +141,8 @@ returns-7 c =
     let s = held-yes (a .h .now) (a .e .now) (sym
     (c .before .before .before .before .before .before .before .before .before .before .before .before .before .before .before .before .housed .ensures) ∙ not-false _ (c .before .before .before .before .before .before .before .before .before .before .before .before .before .before .before .if1 .left)) (omega arith) (omega arith) (sym (c .before .before .before .before .before .before .before .before .before .fits2 .ensures) ∙ not-false _ (c .before .before .before .before .before .before .before .before .if4 .left)) in
     let t = unlock-passes (a .h .now) (a .e .now) s (a .id) (a .who .now) (omega arith) (omega arith) (omega arith) (u .result) (u .last .0)
-    (u .last .1 .1 .0) (u .ensures .0, u .ensures .1 .0) in
-    rw (answered {z = u .result} (u .ok)) (t .0, (t .1, u .ensures .1 .1))
+    (u .last .1 .1 .0) (u .ensures .0) in
+    rw (answered {z = u .result} (u .ok)) (t, u .ensures .1)
 
 pub unlock-spec : {M : Type 1} → statement M
 unlock-spec =
