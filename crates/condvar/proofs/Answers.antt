@@ -11,14 +11,12 @@ use borrow.Author.Tests.{lt-ltb, le-leb, lt-leb, ltb-true, ltb-false}
 use Rattle.thread.specs.Code.{ok, eagain, einval}
 use Rattle.thread.specs.Caller.{callerCode}
 use Rattle.wait_queue.specs.Queue.{maxWaiters, entry, ident, waiting, roomy, holds}
-use Rattle.wait_queue.specs.Turn.{at, waits, parked, pend, unpendFirst, unpendAll}
-use Rattle.wait_queue.specs.Post.{Told, Listed}
-use Rattle.wait_queue.specs.Post as queue
+use Rattle.wait_queue.specs.Turn.{at, waits, pend}
+use Rattle.wait_queue.specs.Post.{Enters, Pends, UnpendsFirst, UnpendsAll}
 use Rattle.wait_queue.proofs.Answers.{pend-parks}
 use Rattle.kind.specs.Verdict.{everybody, wake, allow}
 use Rattle.kind.specs.Kind.{plain}
 use Rattle.kind.specs.Object.{Out, anyone, on, Does, sane}
-use Rattle.kind.specs.Post.{Tells, Lists}
 use Rattle.kind.proofs.Memory.{Header, same-header, is-sane, any-waiting, alike, malformed}
 use Rattle.kind.proofs.Answers.{any-line, length-line, silent, unlisted, verdict, call-no, keeps, wakes, wakes-everybody, handed-no, waits-now, unseen, seen, start-short, start-made}
 use Rattle.mutex.specs.Mutex.{Mutex}
@@ -27,7 +25,7 @@ use Rattle.mutex.specs.Post.{passOut, releaseOut}
 use Rattle.mutex.proofs.Answers.{release-passes, release-asks}
 use Rattle.mutex.proofs.Written.{unwritten}
 use Rattle.condvar.specs.Condvar.{signal, broadcast, wait, condvar-kind}
-use Rattle.condvar.specs.Post.{layout, signalOut, broadcastOut, waitOut, getOut, hasWaiters, Starts, Waited, SignalDecided, BroadcastDecided, WaitDecided}
+use Rattle.condvar.specs.Post.{layout, signalOut, broadcastOut, waitOut, getOut, hasWaiters, Starts, Signals, Broadcasts, Waits, SaysHasWaiters, SignalDecided, BroadcastDecided, WaitDecided}
 
 -- on plain numbers
 pub decide-wakes : SignalDecided true (pos 1)
@@ -62,16 +60,10 @@ left : (h : List ℕ) (n : ℕ) → 1 ≤ length h → Header layout h tt n (set
 left h n k = rw (one h k .is) (record { num = refl; len = refl; beside = refl; long = refl })
 
 module _ (h e : List ℕ) where
-  abbrev pub Signals : ℕ → ℤ → List ℕ → ℕ → Type 0
-  Signals = Tells layout signalOut h e
-
-  pub signal-no : (w : ℕ) → sane condvar-kind layout h e ≡ false → Signals w einval h w
+  pub signal-no : (w : ℕ) → sane condvar-kind layout h e ≡ false → Signals h e w einval h w
   signal-no w s = silent layout signalOut h e 21 (call-no condvar-kind layout plain anyone signal h e s) w
 
-  abbrev pub Broadcasts : List ℕ → ℤ → List ℕ → List ℕ → Type 0
-  Broadcasts out = Lists layout (broadcastOut (length out)) h e out
-
-  pub broadcast-no : (out : List ℕ) → sane condvar-kind layout h e ≡ false → Broadcasts out einval h out
+  pub broadcast-no : (out : List ℕ) → sane condvar-kind layout h e ≡ false → Broadcasts h e out einval h out
   broadcast-no out s =
       unlisted layout (broadcastOut (length out)) h e 21
       (malformed condvar-kind layout h e (broadcastOut (length out)) (handed-no condvar-kind plain anyone broadcast (length out)) s) out
@@ -83,30 +75,28 @@ module _ (h e : List ℕ) where
     pub words : 1 ≤ length h
     words = is-sane condvar-kind layout h e s .housed .words
 
-    pub signal-nobody : (w : ℕ) → getD h 0 0 ≡ 0 → Signals w (pos 0) h w
+    pub signal-nobody : (w : ℕ) → getD h 0 0 ≡ 0 → Signals h e w (pos 0) h w
     signal-nobody w z = keeps condvar-kind layout plain anyone signal h e s 0 refl tt 0 h w (rw (any-line e (getD h 0 0), z)) (same-header layout h)
 
-    pub signal-first : (w w' : ℕ) (r : ℤ) (k : ℕ) → 0 < getD h 0 0 → queue.Does (unpendFirst ok) (getD h 0 0) e r k e
-        → Told (at (unpendFirst ok) (getD h 0 0) e .woken) w w' → Signals w (pos 1) (set h 0 k) w'
-    signal-first w w' r k b d t =
-        wakes condvar-kind layout plain anyone signal h e s 0 refl tt ok 1 (set h 0 k) r k w w' (rw (any-line e (getD h 0 0), lt-ltb 0 (getD h 0 0) b)) b (d, t)
+    pub signal-first : (w w' : ℕ) (r : ℤ) (k : ℕ) → 0 < getD h 0 0 → UnpendsFirst ok (getD h 0 0) e w r k w' → Signals h e w (pos 1) (set h 0 k) w'
+    signal-first w w' r k b d =
+        wakes condvar-kind layout plain anyone signal h e s 0 refl tt ok 1 (set h 0 k) r k w w' (rw (any-line e (getD h 0 0), lt-ltb 0 (getD h 0 0) b)) b d
         (left h k words)
 
     everyone : verdict condvar-kind layout plain anyone broadcast h e ≡ allow tt (wake everybody (λ t. ok)) (pos (length (waiting e (getD h 0 0))))
     everyone = rw (length-line e (getD h 0 0))
 
-    pub broadcast-all : (out : List ℕ) (r : ℤ) (k : ℕ) (out' : List ℕ) → queue.Does (unpendAll ok (length out)) (getD h 0 0) e r k e
-        → Listed (at (unpendAll ok (length out)) (getD h 0 0) e .woken) out out' → Broadcasts out r (set h 0 k) out'
-    broadcast-all out r k out' d t = wakes-everybody condvar-kind layout plain anyone broadcast h e s 0 refl ok everyone (omega arith) r k out out' (d, t) refl
+    pub broadcast-all : (out : List ℕ) (r : ℤ) (k : ℕ) (out' : List ℕ) → UnpendsAll ok (getD h 0 0) e out r k out' → Broadcasts h e out r (set h 0 k) out'
+    broadcast-all out r k out' d = wakes-everybody condvar-kind layout plain anyone broadcast h e s 0 refl ok everyone (omega arith) r k out out' d refl
 
     pub got : (g : List ℕ → ℤ) → g (waiting e (getD h 0 0)) ≡ on layout (getOut g) h e .turn .code
     got g = seen condvar-kind layout (λ n q. g q) h e s
 
-    pub got-some : 0 < getD h 0 0 → pos 1 ≡ on layout (getOut hasWaiters) h e .turn .code
+    pub got-some : 0 < getD h 0 0 → SaysHasWaiters h e (pos 1)
     got-some b =
         let z : hasWaiters (waiting e (getD h 0 0)) ≡ pos 1 = rw (any-waiting e (getD h 0 0), lt-ltb 0 (getD h 0 0) b) in sym z ∙ got hasWaiters
 
-    pub got-none : getD h 0 0 ≡ 0 → pos 0 ≡ on layout (getOut hasWaiters) h e .turn .code
+    pub got-none : getD h 0 0 ≡ 0 → SaysHasWaiters h e (pos 0)
     got-none z = let y : hasWaiters (waiting e (getD h 0 0)) ≡ pos 0 = rw z in sym y ∙ got hasWaiters
 
 -- init
@@ -141,23 +131,23 @@ module _ (i p st : ℕ) (h e m d : List ℕ) (w : ℕ) where
   join = on layout (waitOut i p st) h e .turn .code
 
   -- the mutex refuses
-  pub wait-mutex : (k : ℕ) → release ≡ negsuc k → Waited i p st h e m d w (negsuc k) h e m w
+  pub wait-mutex : (k : ℕ) → release ≡ negsuc k → Waits i p st h e m d w (negsuc k) h e m w
   wait-mutex k z = record { code = rw z; neither = (refl, refl, refl, refl); both = tt; written = unwritten m }
 
   -- the condition variable refuses
   module _ (a : ℕ) (z : release ≡ pos a) where
     -- the mutex has looked at the caller's numbers
-    pub wait-asked : (n : ℕ) (r : ℤ) (n' : ℕ) (e' : List ℕ) → queue.Does (parked (entry p i)) n e r n' e' → queue.Does (pend i p st) n e r n' e'
+    pub wait-asked : (n : ℕ) (r : ℤ) (n' : ℕ) (e' : List ℕ) → Enters i p n e r n' e' → Pends i p st n e r n' e'
     wait-asked n r n' e' q = pend-parks n e i p st _ (release-asks m d i p st a z) r n' e' q
 
-    pub wait-short : length h < 1 → Waited i p st h e m d w einval h e m w
+    pub wait-short : length h < 1 → Waits i p st h e m d w einval h e m w
     wait-short b = record { code = rw (z, lt-leb 1 (length h) b); neither = (refl, refl, refl, refl); both = tt; written = unwritten m }
 
-    module _ (b : 1 ≤ length h) (r : ℤ) (k : ℕ) (e' : List ℕ) (q : queue.Does (pend i p st) (getD h 0 0) e r k e') where
+    module _ (b : 1 ≤ length h) (r : ℤ) (k : ℕ) (e' : List ℕ) (q : Pends i p st (getD h 0 0) e r k e') where
       joined : Does layout (waitOut i p st) h e r (set h 0 k) e'
       joined = waits-now condvar-kind layout plain i p st wait h e tt waits r k e' (omega arith) b refl refl q refl
 
-      pub wait-queue : (c : ℕ) → r ≡ negsuc c → Waited i p st h e m d w (negsuc c) (set h 0 k) e' m w
+      pub wait-queue : (c : ℕ) → r ≡ negsuc c → Waits i p st h e m d w (negsuc c) (set h 0 k) e' m w
       wait-queue c y =
           let u : join ≡ negsuc c = sym (joined .code) ∙ y in
           let v : (set h 0 k ≡ h) × (e' ≡ e) = rw y at (joined .kept) in
@@ -165,7 +155,7 @@ module _ (i p st : ℕ) (h e m d : List ℕ) (w : ℕ) where
 
       -- both are done
       pub wait-both : (c : ℕ) → r ≡ pos c → (m' : List ℕ) (w' : ℕ) (u : ℤ) → mutex.Passes m d w u m' w'
-          → Waited i p st h e m d w (pos a) (set h 0 k) e' m' w'
+          → Waits i p st h e m d w (pos a) (set h 0 k) e' m' w'
       wait-both c y m' w' u g =
           let o : on mutex.layout passOut m d ≡ on mutex.layout (releaseOut i p st) m d = release-passes m d i p st a z in
           let f : u ≡ pos a = g .0 .0 .code ∙ ap (λ (x : Out Mutex). x .turn .code) o ∙ z in

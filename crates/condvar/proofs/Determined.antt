@@ -19,7 +19,7 @@ use Rattle.mutex.specs.Post as mutex
 use Rattle.mutex.specs.Post.{releaseOut}
 use Rattle.mutex.proofs.Determined as mutex-only
 use Rattle.condvar.specs.Condvar.{condvar-kind}
-use Rattle.condvar.specs.Post.{layout, signalOut, broadcastOut, waitOut, Allowed, Waited, SignalDecided, BroadcastDecided, WaitDecided}
+use Rattle.condvar.specs.Post.{layout, signalOut, broadcastOut, waitOut, Allowed, Waits, SignalDecided, BroadcastDecided, WaitDecided}
 use Rattle.condvar.specs.Determined.{Determined}
 
 -- the one word is the length of the queue
@@ -64,7 +64,7 @@ module _ (i p st : ℕ) (h e m d : List ℕ) (w : ℕ) where
       let o = told-only (on mutex.layout (releaseOut i p st) m d .turn .woken) w (x .3) (y .3) (f .2) (g .2) in
       λ j. (k j .1, k j .2, n j .1, o j)
 
-  waited-only : Only (λ ((r, h', e', m', w') : ℤ × List ℕ × List ℕ × List ℕ × ℕ). Waited i p st h e m d w r h' e' m' w')
+  waited-only : Only (λ ((r, h', e', m', w') : ℤ × List ℕ × List ℕ × List ℕ × ℕ). Waits i p st h e m d w r h' e' m' w')
   waited-only x y u v =
       let c : x .0 ≡ y .0 = u .code ∙ sym (v .code) in
       let s : Left = (x .1, x .2, x .3, x .4) in

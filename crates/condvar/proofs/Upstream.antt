@@ -18,13 +18,13 @@ use Rattle.thread.specs.Caller.{callerCode}
 use Rattle.thread.specs.Thread.{running}
 use Rattle.wait_queue.specs.Queue.{maxWaiters, entry, prio, ident, woken, waiting, roomy, holds, joined}
 use Rattle.wait_queue.specs.Turn.{waits}
-use Rattle.wait_queue.specs.Post.{Told, Listed}
+use Rattle.wait_queue.specs.Post.{Told}
 use Rattle.wait_queue.specs.Upstream.{AllAreWoken}
 use Rattle.wait_queue.proofs.Answers.{ident-entry}
 use Rattle.wait_queue.proofs.Well.{well-empty}
 use Rattle.kind.specs.Verdict.{upTo, wake, allow}
 use Rattle.kind.specs.Kind.{plain}
-use Rattle.kind.specs.Object.{Out, refused, anyone, on, Does, sane}
+use Rattle.kind.specs.Object.{Out, refused, anyone, on, sane}
 use Rattle.kind.specs.History.{Event, calls, asks, happens}
 use Rattle.kind.proofs.Memory.{Housed, is-on, malformed, shown, unchanged, barred}
 use Rattle.kind.proofs.Answers.{handed-no}
@@ -37,8 +37,8 @@ use Rattle.mutex.specs.Post.{releaseOut}
 use Rattle.mutex.proofs.Law.{mk}
 use Rattle.mutex.proofs.Answers.{release-no, release-caller, release-free, release-other, release-nested}
 use Rattle.condvar.specs.Condvar.{Call, signal, broadcast, wait, decide, condvar-kind}
-use Rattle.condvar.specs.Post.{layout, signalOut, broadcastOut, waitOut, getOut, hasWaiters, Starts, Waited, SignalDecided, BroadcastDecided, WaitDecided}
-use Rattle.condvar.specs.Upstream.{Inv, Init, Signal, Signalled, NobodyWoken, Broadcast, Waits, WaitBlocking, Given, Both, Neither, NumWaiters, HasWaiters, SignalDecide, BroadcastDecide, WaitDecide, CleanState, signals, Equivalence, Idempotent}
+use Rattle.condvar.specs.Post.{layout, signalOut, broadcastOut, waitOut, getOut, hasWaiters, Starts, Signals, Broadcasts, Waits, CountsWaiters, SaysHasWaiters, SignalDecided, BroadcastDecided, WaitDecided}
+use Rattle.condvar.specs.Upstream.{Inv, Init, Signal, Signalled, NobodyWoken, Broadcast, Waiting, WaitBlocking, Given, Both, Neither, NumWaiters, HasWaiters, SignalDecide, BroadcastDecide, WaitDecide, CleanState, signals, Equivalence, Idempotent}
 use Rattle.condvar.proofs.Law.{condvar-lawful}
 
 -- decide functions
@@ -104,72 +104,78 @@ has-some [] = inr (refl, λ k. absurd (omega arith))
 has-some (x ∷ q) = inl (refl, omega arith)
 
 -- the functions on memory
-module _ (h e : List ℕ) (r : ℤ) (h' e' : List ℕ) (m : Housed layout h e) where
+module _ (h e : List ℕ) (r : ℤ) (h' : List ℕ) (m : Housed layout h e) where
   module _ (v : Inv (waiting e (getD h 0 0))) where
-    pub condvar-signal : Does layout signalOut h e r h' e' → Signal (waiting e (getD h 0 0)) (waiting e' (getD h' 0 0))
-    condvar-signal d = shown layout signalOut (λ c n q. Signal (waiting e (getD h 0 0)) q) h e r h' e' d m (signals-one (waiting e (getD h 0 0)) v)
+    pub condvar-signal : (w w' : ℕ) → Signals h e w r h' w' → Signal (waiting e (getD h 0 0)) (waiting e (getD h' 0 0))
+    condvar-signal w w' d = shown layout signalOut (λ c n q. Signal (waiting e (getD h 0 0)) q) h e r h' e (d .0) m (signals-one (waiting e (getD h 0 0)) v)
 
     -- who is woken
-    pub first-woken : (w w' : ℕ) → 0 < length (waiting e (getD h 0 0)) → Does layout signalOut h e r h' e' → Told (on layout signalOut h e .turn .woken) w w'
-        → Signalled (waiting e (getD h 0 0)) r w' (waiting e' (getD h' 0 0))
-    first-woken w w' b d t =
+    pub first-woken : (w w' : ℕ) → 0 < length (waiting e (getD h 0 0)) → Signals h e w r h' w'
+        → Signalled (waiting e (getD h 0 0)) r w' (waiting e (getD h' 0 0))
+    first-woken w w' b d =
         let s : sane condvar-kind layout h e ≡ true = housed-sane condvar-kind layout h e m refl in
-        let f = woken-by condvar-kind layout plain anyone signal h e s r h' e' 0 refl tt ok (pos 1) (some-one (waiting e (getD h 0 0)) b) b w w' v d t in
+        let f = woken-by condvar-kind layout plain anyone signal h e s r h' e 0 refl tt ok (pos 1) (some-one (waiting e (getD h 0 0)) b) b w w' v (d .0) (d .1) in
         (f .0, f .2)
       where
         some-one : (q : List ℕ) → 0 < length q → decide tt plain (map ident q) 0 signal ≡ allow tt (wake (upTo 1) (λ t. ok)) (pos 1)
         some-one [] b = absurd (omega arith)
         some-one (x ∷ q) b = refl
 
-  pub nobody-woken : (w w' : ℕ) → waiting e (getD h 0 0) ≡ [] → Does layout signalOut h e r h' e' → Told (on layout signalOut h e .turn .woken) w w'
-      → NobodyWoken r w w' (waiting e' (getD h' 0 0))
-  nobody-woken w w' l d t =
+  pub nobody-woken : (w w' : ℕ) → waiting e (getD h 0 0) ≡ [] → Signals h e w r h' w' → NobodyWoken r w w' (waiting e (getD h' 0 0))
+  nobody-woken w w' l d =
       let y : on layout signalOut h e ≡ record { num = tt; turn = record { code = pos 0; queue = []; woken = [] } } = rw (is-on layout signalOut h e m, l) in
-      record { code = d .code ∙ rw y refl; told = rw y at t; others = d .queue ∙ rw y refl }
+      record { code = d .0 .code ∙ rw y refl; told = rw y at (d .1); others = d .0 .queue ∙ rw y refl }
 
   -- with room to hand them out
-  module _ (out : List ℕ) (k : length (waiting e (getD h 0 0)) ≤ length out) (d : Does layout (broadcastOut (length out)) h e r h' e') where
-    pub condvar-broadcast : Broadcast (waiting e (getD h 0 0)) r (waiting e' (getD h' 0 0))
+  module _ (out out' : List ℕ) (k : length (waiting e (getD h 0 0)) ≤ length out) (d : Broadcasts h e out r h' out') where
+    pub condvar-broadcast : Broadcast (waiting e (getD h 0 0)) r (waiting e (getD h' 0 0))
     condvar-broadcast =
-        shown layout (broadcastOut (length out)) (λ c n q. Broadcast (waiting e (getD h 0 0)) c q) h e r h' e' d m
+        shown layout (broadcastOut (length out)) (λ c n q. Broadcast (waiting e (getD h 0 0)) c q) h e r h' e (d .0) m
         (rw (broadcasts-all (length out) (waiting e (getD h 0 0)) k) (record { inv = well-empty; empty = refl; count = refl }))
 
-    pub all-woken : (out' : List ℕ) → Listed (on layout (broadcastOut (length out)) h e .turn .woken) out out'
-        → AllAreWoken ok (waiting e (getD h 0 0)) out out'
-    all-woken out' t =
-        t ∙ rw (
+    pub all-woken : AllAreWoken ok (waiting e (getD h 0 0)) out out'
+    all-woken =
+        d .1 ∙ rw (
           is-on layout (broadcastOut (length out)) h e m,
           broadcasts-all (length out) (waiting e (getD h 0 0)) k,
           length-map
               (waiting e (getD h 0 0)) (woken ok),
         ) refl
 
+  read : (r ≡ einval) × (h' ≡ h) × (e ≡ e) → (r ≡ einval) × (h' ≡ h)
+  read k = (k .0, k .1)
+
   -- upstream needs none; with too little the broadcast is refused, and all wait on
-  pub broadcast-short : (out : List ℕ) → length out < length (waiting e (getD h 0 0)) → Does layout (broadcastOut (length out)) h e r h' e'
-      → (r ≡ einval) × (h' ≡ h) × (e' ≡ e)
-  broadcast-short out k d =
-      unchanged layout (broadcastOut (length out)) h e r h' e' 21 d
-      (rw (is-on layout (broadcastOut (length out)) h e m, broadcasts-none (length out) (waiting e (getD h 0 0)) k))
+  pub broadcast-short : (out out' : List ℕ) → length out < length (waiting e (getD h 0 0)) → Broadcasts h e out r h' out'
+      → (r ≡ einval) × (h' ≡ h)
+  broadcast-short out out' k d =
+      read
+      (unchanged layout (broadcastOut (length out)) h e r h' e 21 (d .0)
+      (rw (is-on layout (broadcastOut (length out)) h e m, broadcasts-none (length out) (waiting e (getD h 0 0)) k)))
 
   gets : (g : List ℕ → ℤ) → r ≡ on layout (getOut g) h e .turn .code → r ≡ g (waiting e (getD h 0 0))
   gets g d = d ∙ rw (is-on layout (getOut g) h e m)
 
-  pub num-waiters : r ≡ on layout (getOut (λ q. pos (length q))) h e .turn .code → NumWaiters (waiting e (getD h 0 0)) r
+  pub num-waiters : CountsWaiters h e r → NumWaiters (waiting e (getD h 0 0)) r
   num-waiters d = gets (λ q. pos (length q)) d
 
-  pub has-waiters : r ≡ on layout (getOut hasWaiters) h e .turn .code → HasWaiters (waiting e (getD h 0 0)) r
+  pub has-waiters : SaysHasWaiters h e r → HasWaiters (waiting e (getD h 0 0)) r
   has-waiters d = rw (gets hasWaiters d) (has-some (waiting e (getD h 0 0)))
 
 -- what upstream demands is refused here: more that wait than can, or too little memory
-module _ (h e : List ℕ) (r : ℤ) (h' e' : List ℕ) (s : sane condvar-kind layout h e ≡ false) where
+module _ (h e : List ℕ) (r : ℤ) (h' : List ℕ) (s : sane condvar-kind layout h e ≡ false) where
   abbrev Stays : Type 0
-  Stays = (r ≡ einval) × (h' ≡ h) × (e' ≡ e)
+  Stays = (r ≡ einval) × (h' ≡ h)
 
-  pub signal-refuses : Does layout signalOut h e r h' e' → Stays
-  signal-refuses d = barred condvar-kind layout h e signalOut r h' e' (λ n q z. clash z) s d
+  stay : (r ≡ einval) × (h' ≡ h) × (e ≡ e) → Stays
+  stay k = (k .0, k .1)
 
-  pub broadcast-refuses : (room : ℕ) → Does layout (broadcastOut room) h e r h' e' → Stays
-  broadcast-refuses room d = barred condvar-kind layout h e (broadcastOut room) r h' e' (handed-no condvar-kind plain anyone broadcast room) s d
+  pub signal-refuses : (w w' : ℕ) → Signals h e w r h' w' → Stays
+  signal-refuses w w' d = stay (barred condvar-kind layout h e signalOut r h' e (λ n q z. clash z) s (d .0))
+
+  pub broadcast-refuses : (out out' : List ℕ) → Broadcasts h e out r h' out' → Stays
+  broadcast-refuses out out' d =
+      stay (barred condvar-kind layout h e (broadcastOut (length out)) r h' e (handed-no condvar-kind plain anyone broadcast (length out)) s (d .0))
 
   pub get-refuses : (g : List ℕ → ℤ) → r ≡ on layout (getOut g) h e .turn .code → r ≡ einval
   get-refuses g d = d ∙ ap (λ (o : Out (Unit {0})). o .turn .code) (malformed condvar-kind layout h e (getOut g) (λ n q z. clash z) s)
@@ -273,16 +279,16 @@ module _ (i p st : ℕ) (h e : List ℕ) where
       go true true (pos n) false true f g j u v = rw (f, g, j, u, v)
 
 -- who gives it back waits, and nothing else
-given-waits : (l : List ℕ) (w : ℕ) (r : ℤ) (n : Mutex) (q : List ℕ) (w' : ℕ) → Given l w r n q w' → Waits r
+given-waits : (l : List ℕ) (w : ℕ) (r : ℤ) (n : Mutex) (q : List ℕ) (w' : ℕ) → Given l w r n q w' → Waiting r
 given-waits [] w r n q w' g = inl (g .0)
 given-waits (x ∷ l) w r n q w' g = inr (g .0)
 
-refusal-stays : (k : ℕ) → Waits (negsuc k) → ⊥
+refusal-stays : (k : ℕ) → Waiting (negsuc k) → ⊥
 refusal-stays k (inl z) = never k 1 z
 refusal-stays k (inr z) = never k 2 z
 
 -- wait_blocking: the thread i of priority p in the state st, with the mutex (m, d)
-module _ (i p st : ℕ) (h e m d : List ℕ) (w : ℕ) (r : ℤ) (h' e' m' : List ℕ) (w' : ℕ) (t : Waited i p st h e m d w r h' e' m' w') where
+module _ (i p st : ℕ) (h e m d : List ℕ) (w : ℕ) (r : ℤ) (h' e' m' : List ℕ) (w' : ℕ) (t : Waits i p st h e m d w r h' e' m' w') where
   abbrev release : ℤ
   release = on mutex.layout (releaseOut i p st) m d .turn .code
 
@@ -327,7 +333,7 @@ module _ (i p st : ℕ) (h e m d : List ℕ) (w : ℕ) (r : ℤ) (h' e' m' : Lis
       go (pos a) z =
           let b = rw z at (t .both) in
           let f = done a z in
-          let y : Waits r = given-waits (waiting d (getD m 3 0)) w r _ _ w' (f .given) in
+          let y : Waiting r = given-waits (waiting d (getD m 3 0)) w r _ _ w' (f .given) in
           record {
             inv =
                 shown layout (waitOut i p st) (λ c n q. Inv q) h e waits h' e' (b .0) c

@@ -13,7 +13,8 @@ use Rattle.wait_queue.specs.Turn.{waits}
 use Rattle.wait_queue.specs.Post.{Refused, Told}
 use Rattle.kind.specs.Verdict.{answer}
 use Rattle.kind.specs.Kind.{judge, plain}
-use Rattle.kind.specs.Object.{Out, anyone, thread, call, handed, looks, Layout, on, Does, Started}
+use Rattle.kind.specs.Object.{Out, anyone, thread, call, handed, looks, Layout, on, Does, Started, Audited}
+use Rattle.kind.specs.Post.{Tells, Lists}
 use Rattle.mutex.specs.Post as mutex
 use Rattle.mutex.specs.Post.{releaseOut}
 use Rattle.condvar.specs.Condvar.{Call, signal, broadcast, wait, tryWait, condvar-kind}
@@ -40,10 +41,6 @@ getOut f = looks condvar-kind (λ n q. f q)
 abbrev pub hasWaiters : List ℕ → ℤ
 hasWaiters q = cond (any q) (pos 1) (pos 0)
 
--- a new condition variable
-abbrev pub Starts : List ℕ → ℤ → List ℕ → Type 0
-Starts = Started condvar-kind layout tt
-
 -- the answer of two that are done both or neither: the first refusal, or what the first answers
 abbrev pub agreed : ℤ → ℤ → ℤ
 agreed (negsuc a) b = negsuc a
@@ -55,9 +52,30 @@ abbrev pub Allowed : ℤ → Type 0 → Type 0
 Allowed (pos n) P = P
 Allowed (negsuc n) P = Unit {0}
 
+-- The contract of each public function: its numbers, what it is lent, its answer, and what it leaves.
+
+-- a new condition variable
+abbrev pub Starts : List ℕ → ℤ → List ℕ → Type 0
+Starts h r h' = Started condvar-kind layout tt h r h'
+
+abbrev pub Signals : List ℕ → List ℕ → ℕ → ℤ → List ℕ → ℕ → Type 0
+Signals h e w r h' w' = Tells layout signalOut h e w r h' w'
+
+abbrev pub Broadcasts : List ℕ → List ℕ → List ℕ → ℤ → List ℕ → List ℕ → Type 0
+Broadcasts h e out r h' out' = Lists layout (broadcastOut (length out)) h e out r h' out'
+
+abbrev pub CountsWaiters : List ℕ → List ℕ → ℤ → Type 0
+CountsWaiters h e r = r ≡ on layout (getOut (λ q. pos (length q))) h e .turn .code
+
+abbrev pub SaysHasWaiters : List ℕ → List ℕ → ℤ → Type 0
+SaysHasWaiters h e r = r ≡ on layout (getOut hasWaiters) h e .turn .code
+
+abbrev pub Audits : List ℕ → List ℕ → Bool → Type 0
+Audits h e r = Audited condvar-kind layout h e r
+
 -- the thread i of priority p in the state st gives back the mutex (m, d) and waits here (h, e); the word w is for the thread that gets the
 -- mutex
-pub record Waited (i p st : ℕ) (h e m d : List ℕ) (w : ℕ) (r : ℤ) (h' e' m' : List ℕ) (w' : ℕ) : Type 0 where
+pub record Waits (i p st : ℕ) (h e m d : List ℕ) (w : ℕ) (r : ℤ) (h' e' m' : List ℕ) (w' : ℕ) : Type 0 where
   -- the mutex's refusal, or the queue's; else 1 or 2, as the mutex is free or handed over
   pub code : r ≡ agreed (on mutex.layout (releaseOut i p st) m d .turn .code) (on layout (waitOut i p st) h e .turn .code)
   -- a refusal changes no word

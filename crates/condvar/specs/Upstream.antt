@@ -59,17 +59,17 @@ pub record Broadcast (q : List ℕ) (r : ℤ) (q' : List ℕ) : Type 0 where
   pub count : r ≡ pos (length q)
 
 -- result == true: the thread waits. It is 1 or 2 here, by what becomes of the mutex; all else is a refusal
-abbrev pub Waits : ℤ → Type 0
-Waits r = (r ≡ unlocked) ⊎ (r ≡ transferred)
+abbrev pub Waiting : ℤ → Type 0
+Waiting r = (r ≡ unlocked) ⊎ (r ≡ transferred)
 
 -- wait_blocking
 pub record WaitBlocking (q : List ℕ) (r : ℤ) (q' : List ℕ) : Type 0 where
   -- self.inv()
   pub inv : Inv q'
   -- result == true ==> self.wait_q.len_spec() == old(self).wait_q.len_spec() + 1
-  pub joined : Waits r → length q' ≡ length q + 1
+  pub joined : Waiting r → length q' ≡ length q + 1
   -- result == false ==> self.wait_q.len_spec() == old(self).wait_q.len_spec()
-  pub stayed : (Waits r → ⊥) → length q' ≡ length q
+  pub stayed : (Waiting r → ⊥) → length q' ≡ length q
 
 -- what becomes of a mutex that is given back, where l wait for it: n' and l' are its numbers and its queue after the call, w' the word for
 -- the thread that gets it
@@ -131,12 +131,12 @@ pub record CleanState (h' : List ℕ) : Type 0 where
   pub inv : (xs : List (Event Call)) → Inv (after xs .queue)
 
 -- n signals, one after the other: their answers, those that were woken, each with its result, and the queue that is left
-pub record Signals : Type 0 where
+pub record ManySignals : Type 0 where
   pub answers : List ℤ
   pub woken : List ℕ
   pub queue : List ℕ
 
-abbrev pub signals : ℕ → List ℕ → Signals
+abbrev pub signals : ℕ → List ℕ → ManySignals
 signals zero q = record { answers = []; woken = []; queue = q }
 signals (suc n) q =
     record {

@@ -4,14 +4,9 @@ use thread::EINVAL;
 use thread::OK;
 use wait_queue::WAITS;
 ghost use mathlib.Core.Path.{_≡_};
-ghost use Prim.Native.Nat.{ℕ};
-ghost use mathlib.Core.List.{List};
-ghost use lib.IntN.{pos};
-ghost use lib.ListN.{length};
-ghost use Rattle.wait_queue.specs.Post.{Told, Listed};
-ghost use Rattle.kind.specs.Object.{on, Does, sane, Audited};
+ghost use Rattle.kind.specs.Object.{sane};
 ghost use Rattle.condvar.specs.Condvar.{condvar-kind};
-ghost use Rattle.condvar.specs.Post.{layout, signalOut, broadcastOut, getOut, hasWaiters, Starts, Waited, SignalDecided, BroadcastDecided, WaitDecided};
+ghost use Rattle.condvar.specs.Post.{layout, Starts, Signals, Broadcasts, Waits, CountsWaiters, SaysHasWaiters, Audits, SignalDecided, BroadcastDecided, WaitDecided};
 
 // Whether the memory is as it should be.
 fn formed(h: &[u32], e: &[u64]) -> bool
@@ -66,8 +61,7 @@ pub fn init(h: &mut [u32]) -> i32
 
 // 1: who is to be made ready, with 0; 0: nobody waits.
 pub fn signal(h: &mut [u32], e: &[u64], who: &mut u64) -> i32
-    ensures { λ r. ⌜ Does layout signalOut (now (h .entry)) (now (e .entry)) r (now (h .exit)) (now (e .entry)) ⌝ }
-    ensures { λ r. ⌜ Told (on layout signalOut (now (h .entry)) (now (e .entry)) .turn .woken) (now (who .entry)) (now (who .exit)) ⌝ }
+    ensures { λ r. ⌜ Signals (now (h .entry)) (now (e .entry)) (now (who .entry)) r (now (h .exit)) (now (who .exit)) ⌝ }
 {
     if !formed(h, e) {
         return EINVAL;
@@ -81,8 +75,7 @@ pub fn signal(h: &mut [u32], e: &[u64], who: &mut u64) -> i32
 
 // How many were woken: all, each with 0.
 pub fn broadcast(h: &mut [u32], e: &[u64], out: &mut [u64]) -> i32
-    ensures { λ r. ⌜ Does layout (broadcastOut (length (now (out .entry)))) (now (h .entry)) (now (e .entry)) r (now (h .exit)) (now (e .entry)) ⌝ }
-    ensures { λ r. ⌜ Listed (on layout (broadcastOut (length (now (out .entry)))) (now (h .entry)) (now (e .entry)) .turn .woken) (now (out .entry)) (now (out .exit)) ⌝ }
+    ensures { λ r. ⌜ Broadcasts (now (h .entry)) (now (e .entry)) (now (out .entry)) r (now (h .exit)) (now (out .exit)) ⌝ }
 {
     if !formed(h, e) {
         return EINVAL;
@@ -101,7 +94,7 @@ pub fn wait_blocking(
     state: u32,
     who: &mut u64,
 ) -> i32
-    ensures { λ r. ⌜ Waited id priority state (now (h .entry)) (now (e .entry)) (now («mutex_h» .entry)) (now («mutex_e» .entry)) (now (who .entry)) r (now (h .exit)) (now (e .exit)) (now («mutex_h» .exit)) (now (who .exit)) ⌝ }
+    ensures { λ r. ⌜ Waits id priority state (now (h .entry)) (now (e .entry)) (now («mutex_h» .entry)) (now («mutex_e» .entry)) (now (who .entry)) r (now (h .exit)) (now (e .exit)) (now («mutex_h» .exit)) (now (who .exit)) ⌝ }
 {
     let given = mutex::release_decide(mutex_h, mutex_e, id, priority, state);
     if given < 0 {
@@ -119,7 +112,7 @@ pub fn wait_blocking(
 }
 
 pub fn num_waiters(h: &[u32], e: &[u64]) -> i64
-    ensures { λ r. ⌜ r ≡ on layout (getOut (λ (q : List ℕ). pos (length q))) (now (h .entry)) (now (e .entry)) .turn .code ⌝ }
+    ensures { λ r. ⌜ CountsWaiters (now (h .entry)) (now (e .entry)) r ⌝ }
 {
     if !formed(h, e) {
         return -22;
@@ -129,7 +122,7 @@ pub fn num_waiters(h: &[u32], e: &[u64]) -> i64
 
 // 1: somebody waits; 0: nobody.
 pub fn has_waiters(h: &[u32], e: &[u64]) -> i32
-    ensures { λ r. ⌜ r ≡ on layout (getOut hasWaiters) (now (h .entry)) (now (e .entry)) .turn .code ⌝ }
+    ensures { λ r. ⌜ SaysHasWaiters (now (h .entry)) (now (e .entry)) r ⌝ }
 {
     if !formed(h, e) {
         return EINVAL;
@@ -142,7 +135,7 @@ pub fn has_waiters(h: &[u32], e: &[u64]) -> i32
 
 // Whether the whole condition variable is well formed.
 pub fn audit(h: &[u32], e: &[u64]) -> bool
-    ensures { λ r. ⌜ Audited condvar-kind layout (now (h .entry)) (now (e .entry)) r ⌝ }
+    ensures { λ r. ⌜ Audits (now (h .entry)) (now (e .entry)) r ⌝ }
 {
     if !formed(h, e) {
         return false;

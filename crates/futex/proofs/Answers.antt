@@ -12,17 +12,15 @@ use borrow.Author.Tests.{lt-ltb, le-leb, lt-leb, ltb-true, ltb-false, eq-eqb, ne
 use Rattle.thread.specs.Code.{ok, eagain, einval}
 use Rattle.thread.specs.Caller.{callerCode}
 use Rattle.wait_queue.specs.Queue.{maxWaiters, ident, waiting}
-use Rattle.wait_queue.specs.Turn.{at, waits, pend, unpendFirst, unpendAll}
-use Rattle.wait_queue.specs.Post.{Told, Listed}
-use Rattle.wait_queue.specs.Post as queue
+use Rattle.wait_queue.specs.Turn.{waits}
+use Rattle.wait_queue.specs.Post.{Pends, UnpendsFirst, UnpendsAll}
 use Rattle.kind.specs.Verdict.{everybody, upTo, wake, allow}
 use Rattle.kind.specs.Kind.{plain}
-use Rattle.kind.specs.Object.{anyone, thread, on, Does, sane}
-use Rattle.kind.specs.Post.{Lists}
+use Rattle.kind.specs.Object.{anyone, thread, on, sane}
 use Rattle.kind.proofs.Memory.{Header, same-header, refuses, is-sane, malformed}
 use Rattle.kind.proofs.Answers.{any-line, length-line, unlisted, verdict, call-no, call-barred, call-denied, keeps, keeps-unlisted, no-place-one, wakes-one, wakes-everybody, handed-no, waits-now, unseen, seen, start-short, start-made}
 use Rattle.futex.specs.Futex.{Futex, wait, wakeOne, wakeAll, set, futex-kind}
-use Rattle.futex.specs.Post.{layout, waitOut, wakeCall, wakeOut, setOut, getOut, Starts, WaitDecided, WakeDecided}
+use Rattle.futex.specs.Post.{layout, waitOut, wakeCall, wakeOut, setOut, getOut, Starts, Waits, Wakes, SetsVal, WaitDecided, WakeDecided}
 use Rattle.futex.proofs.Law.{mk}
 
 -- on plain numbers
@@ -73,16 +71,13 @@ module _ (h : List ℕ) (k : 2 ≤ length h) where
   new x = rw (two h k .is) (record { num = refl; len = refl; beside = refl; long = refl })
 
 module _ (h e : List ℕ) where
-  pub wait-no : (x i p st : ℕ) → sane futex-kind layout h e ≡ false → Does layout (waitOut x i p st) h e einval h e
+  pub wait-no : (x i p st : ℕ) → sane futex-kind layout h e ≡ false → Waits x i p st h e einval h e
   wait-no x i p st s = refuses layout (waitOut x i p st) h e 21 (call-no futex-kind layout plain (thread i p st) (wait x) h e s)
 
-  pub set-no : (x : ℕ) → sane futex-kind layout h e ≡ false → Does layout (setOut x) h e einval h e
+  pub set-no : (x : ℕ) → sane futex-kind layout h e ≡ false → SetsVal x h e einval h
   set-no x s = refuses layout (setOut x) h e 21 (call-no futex-kind layout plain anyone (set x) h e s)
 
-  abbrev pub Wakes : Bool → List ℕ → ℤ → List ℕ → List ℕ → Type 0
-  Wakes b out = Lists layout (wakeOut b (length out)) h e out
-
-  pub wake-no : (b : Bool) (out : List ℕ) → sane futex-kind layout h e ≡ false → Wakes b out einval h out
+  pub wake-no : (b : Bool) (out : List ℕ) → sane futex-kind layout h e ≡ false → Wakes b h e out einval h out
   wake-no b out s =
       unlisted layout (wakeOut b (length out)) h e 21
       (malformed futex-kind layout h e (wakeOut b (length out)) (handed-no futex-kind plain anyone (wakeCall b) (length out)) s) out
@@ -95,20 +90,20 @@ module _ (h e : List ℕ) where
     words = is-sane futex-kind layout h e s .housed .words
 
     module _ (x i p st : ℕ) where
-      pub wait-waits : getD h 0 0 ≡ x → (r : ℤ) (m : ℕ) (e' : List ℕ) → queue.Does (pend i p st) (getD h 1 0) e r m e'
-          → Does layout (waitOut x i p st) h e r (list.set h 1 m) e'
+      pub wait-waits : getD h 0 0 ≡ x → (r : ℤ) (m : ℕ) (e' : List ℕ) → Pends i p st (getD h 1 0) e r m e'
+          → Waits x i p st h e r (list.set h 1 m) e'
       wait-waits k r m e' d =
           waits-now futex-kind layout plain i p st (wait x) h e tt waits r m e' (omega arith) words refl (rw (eq-eqb (getD h 0 0) x k)) d
           (left h words m .num)
 
-      pub wait-caller : (c : ℕ) → callerCode p st ≡ negsuc c → Does layout (waitOut x i p st) h e (negsuc c) h e
+      pub wait-caller : (c : ℕ) → callerCode p st ≡ negsuc c → Waits x i p st h e (negsuc c) h e
       wait-caller c z = refuses layout (waitOut x i p st) h e c (call-barred futex-kind layout plain (thread i p st) (wait x) h e s c z)
 
-      pub wait-again : (c : ℕ) → callerCode p st ≡ pos c → (getD h 0 0 ≡ x → ⊥) → Does layout (waitOut x i p st) h e eagain h e
+      pub wait-again : (c : ℕ) → callerCode p st ≡ pos c → (getD h 0 0 ≡ x → ⊥) → Waits x i p st h e eagain h e
       wait-again c z k =
           refuses layout (waitOut x i p st) h e 10 (call-denied futex-kind layout plain (thread i p st) (wait x) h e s c z 10 (rw (ne-eqb (getD h 0 0) x k)))
 
-    pub sets : (x : ℕ) → Does layout (setOut x) h e ok (list.set h 0 x) e
+    pub sets : (x : ℕ) → SetsVal x h e ok (list.set h 0 x)
     sets x = keeps futex-kind layout plain anyone (set x) h e s 0 refl (mk x) 0 (list.set h 0 x) 0 refl (valued h words x) .0
 
     module _ (out : List ℕ) where
@@ -116,25 +111,24 @@ module _ (h e : List ℕ) where
       everyone : verdict futex-kind layout plain anyone wakeAll h e ≡ allow (layout .num h) (wake everybody (λ t. ok)) (pos (length (waiting e (getD h 1 0))))
       everyone = rw (length-line e (getD h 1 0))
 
-      pub wake-everybody : (r : ℤ) (k : ℕ) (out' : List ℕ) → queue.Does (unpendAll ok (length out)) (getD h 1 0) e r k e
-          → Listed (at (unpendAll ok (length out)) (getD h 1 0) e .woken) out out' → Wakes true out r (list.set h 1 k) out'
-      wake-everybody r k out' d t = wakes-everybody futex-kind layout plain anyone wakeAll h e s 0 refl ok everyone (omega arith) r k out out' (d, t) (left h words k .num)
+      pub wake-everybody : (r : ℤ) (k : ℕ) (out' : List ℕ) → UnpendsAll ok (getD h 1 0) e out r k out' → Wakes true h e out r (list.set h 1 k) out'
+      wake-everybody r k out' d = wakes-everybody futex-kind layout plain anyone wakeAll h e s 0 refl ok everyone (omega arith) r k out out' d (left h words k .num)
 
       -- one
       first : 0 < getD h 1 0 → verdict futex-kind layout plain anyone wakeOne h e ≡ allow (layout .num h) (wake (upTo 1) (λ t. ok)) (pos 1)
       first b = rw (any-line e (getD h 1 0), lt-ltb 0 (getD h 1 0) b)
 
-      pub wake-nobody : getD h 1 0 ≡ 0 → Wakes false out (pos 0) h out
+      pub wake-nobody : getD h 1 0 ≡ 0 → Wakes false h e out (pos 0) h out
       wake-nobody z =
           keeps-unlisted futex-kind layout plain anyone wakeOne h e s 0 refl (layout .num h) 0 h out (rw (any-line e (getD h 1 0), z)) (same-header layout h)
 
-      pub wake-short : 0 < getD h 1 0 → length out < 1 → Wakes false out einval h out
+      pub wake-short : 0 < getD h 1 0 → length out < 1 → Wakes false h e out einval h out
       wake-short b c = no-place-one futex-kind layout plain anyone wakeOne h e s 0 refl (layout .num h) ok 1 (first b) b out c
 
-      pub wake-first : (r : ℤ) (k x' : ℕ) → 0 < getD h 1 0 → 1 ≤ length out → queue.Does (unpendFirst ok) (getD h 1 0) e r k e
-          → Told (at (unpendFirst ok) (getD h 1 0) e .woken) (getD out 0 0) x' → Wakes false out (pos 1) (list.set h 1 k) (list.set out 0 x')
-      wake-first r k x' b c d t =
-          wakes-one futex-kind layout plain anyone wakeOne h e s 0 refl (layout .num h) ok 1 (first b) b out (list.set h 1 k) r k x' c (d, t) (left h words k)
+      pub wake-first : (r : ℤ) (k x' : ℕ) → 0 < getD h 1 0 → 1 ≤ length out → UnpendsFirst ok (getD h 1 0) e (getD out 0 0) r k x'
+          → Wakes false h e out (pos 1) (list.set h 1 k) (list.set out 0 x')
+      wake-first r k x' b c d =
+          wakes-one futex-kind layout plain anyone wakeOne h e s 0 refl (layout .num h) ok 1 (first b) b out (list.set h 1 k) r k x' c d (left h words k)
 
     pub got : (g : Futex → List ℕ → ℕ) → pos (g (layout .num h) (waiting e (getD h 1 0))) ≡ on layout (getOut g) h e .turn .code
     got g = seen futex-kind layout (λ n q. pos (g n q)) h e s

@@ -17,19 +17,18 @@ use Rattle.thread.specs.Priority.{maxPriority}
 use Rattle.thread.specs.Thread.{running}
 use Rattle.wait_queue.specs.Queue.{maxWaiters, entry, prio, ident, woken, waiting, roomy, holds, joined, Well}
 use Rattle.wait_queue.specs.Turn.{waits}
-use Rattle.wait_queue.specs.Post.{Listed}
 use Rattle.wait_queue.specs.Upstream.{AllAreWoken}
 use Rattle.wait_queue.proofs.Memory.{is-roomy}
 use Rattle.wait_queue.proofs.Answers.{ident-entry}
 use Rattle.wait_queue.proofs.Well.{well-empty}
 use Rattle.kind.specs.Kind.{plain}
-use Rattle.kind.specs.Object.{Out, refused, anyone, on, Does, sane}
+use Rattle.kind.specs.Object.{Out, refused, anyone, on, sane}
 use Rattle.kind.specs.History.{Object, Event, calls, asks, happens, next}
 use Rattle.kind.proofs.Memory.{Housed, is-on, malformed, shown, unchanged, barred}
 use Rattle.kind.proofs.Answers.{handed-no}
 use Rattle.kind.proofs.Histories.{step}
 use Rattle.futex.specs.Futex.{Futex, Call, wait, wakeOne, futex-kind}
-use Rattle.futex.specs.Post.{layout, waitOut, wakeCall, wakeOut, setOut, getOut, Starts, WaitDecided, WakeDecided}
+use Rattle.futex.specs.Post.{layout, waitOut, wakeCall, wakeOut, setOut, getOut, Starts, Waits, Wakes, SetsVal, GetsVal, CountsWaiters, WaitDecided, WakeDecided}
 use Rattle.futex.specs.History.{after}
 use Rattle.futex.specs.Upstream.{Inv, Init, Wait, Wake, WakeFew, FirstWoken, ValSet, ValGet, NumWaiters, WaitDecide, WakeDecide, Gating, WakeSemantics, Roundtrip, Bounded}
 use Rattle.futex.proofs.Law.{mk, futex-lawful}
@@ -175,11 +174,11 @@ wakes-no-first room v x q k = rw (lt-leb 1 room k)
 wakes-nobody : (room v : ℕ) → wakeOut false room (mk v) [] ≡ record { num = mk v; turn = record { code = pos 0; queue = []; woken = [] } }
 wakes-nobody room v = let z : 0 ≤ room = omega arith in rw (le-leb 0 room z)
 
-abbrev Wakes : Bool → ℕ → ℕ → List ℕ → Type 0
-Wakes b room v q = Wake b (mk v) q (wakeOut b room (mk v) q .turn .code) (wakeOut b room (mk v) q .num) (wakeOut b room (mk v) q .turn .queue)
+abbrev WakeMet : Bool → ℕ → ℕ → List ℕ → Type 0
+WakeMet b room v q = Wake b (mk v) q (wakeOut b room (mk v) q .turn .code) (wakeOut b room (mk v) q .num) (wakeOut b room (mk v) q .turn .queue)
 
 -- for one that is woken, one word of room is enough
-wakes : (b : Bool) (room v : ℕ) (q : List ℕ) → Inv q → (b ≡ true → length q ≤ room) → (b ≡ false → 0 < length q → 0 < room) → Wakes b room v q
+wakes : (b : Bool) (room v : ℕ) (q : List ℕ) → Inv q → (b ≡ true → length q ≤ room) → (b ≡ false → 0 < length q → 0 < room) → WakeMet b room v q
 wakes true room v q g k l =
     rw (wakes-all room v q (k refl))
     (record {
@@ -232,7 +231,7 @@ wakes false room v (x ∷ q) g k l =
     })
 
 -- the functions on memory
-module _ (h e : List ℕ) (r : ℤ) (h' e' : List ℕ) (m : Housed layout h e) where
+module _ (h e : List ℕ) (r : ℤ) (h' : List ℕ) (m : Housed layout h e) where
   abbrev val : ℕ
   val = getD h 0 0
 
@@ -240,75 +239,84 @@ module _ (h e : List ℕ) (r : ℤ) (h' e' : List ℕ) (m : Housed layout h e) w
   queue = waiting e (getD h 1 0)
 
   module _ (g : Inv (waiting e (getD h 1 0))) where
-    pub futex-wait : (x i p : ℕ) → i < 4294967296 → p < maxPriority → length (waiting e (getD h 1 0)) < maxWaiters → holds i (waiting e (getD h 1 0)) ≡ false
-        → Does layout (waitOut x i p running) h e r h' e' → Wait x (layout .num h) (waiting e (getD h 1 0)) r (layout .num h') (waiting e' (getD h' 1 0))
-    futex-wait x i p small valid room absent d =
+    pub futex-wait : (x i p : ℕ) (e' : List ℕ) → i < 4294967296 → p < maxPriority → length (waiting e (getD h 1 0)) < maxWaiters → holds i (waiting e (getD h 1 0)) ≡ false
+        → Waits x i p running h e r h' e' → Wait x (layout .num h) (waiting e (getD h 1 0)) r (layout .num h') (waiting e' (getD h' 1 0))
+    futex-wait x i p e' small valid room absent d =
         shown layout (waitOut x i p running) (Wait x (layout .num h) (waiting e (getD h 1 0))) h e r h' e' d m (waits-here x i p val queue small valid room absent g)
 
     -- with room to hand out those that are woken
-    pub futex-wake : (b : Bool) (out : List ℕ) → (b ≡ true → length (waiting e (getD h 1 0)) ≤ length out) → (b ≡ false → 0 < length (waiting e (getD h 1 0)) → 0 < length out)
-        → Does layout (wakeOut b (length out)) h e r h' e' → Wake b (layout .num h) (waiting e (getD h 1 0)) r (layout .num h') (waiting e' (getD h' 1 0))
-    futex-wake b out k l d =
-        shown layout (wakeOut b (length out)) (Wake b (layout .num h) (waiting e (getD h 1 0))) h e r h' e' d m (wakes b (length out) val queue g k l)
+    pub futex-wake : (b : Bool) (out out' : List ℕ) → (b ≡ true → length (waiting e (getD h 1 0)) ≤ length out) → (b ≡ false → 0 < length (waiting e (getD h 1 0)) → 0 < length out)
+        → Wakes b h e out r h' out' → Wake b (layout .num h) (waiting e (getD h 1 0)) r (layout .num h') (waiting e (getD h' 1 0))
+    futex-wake b out out' k l d =
+        shown layout (wakeOut b (length out)) (Wake b (layout .num h) (waiting e (getD h 1 0))) h e r h' e (d .0) m (wakes b (length out) val queue g k l)
 
     -- who is woken
-    pub first-woken : (x : ℕ) (q out out' : List ℕ) → waiting e (getD h 1 0) ≡ x ∷ q → 0 < length out → Does layout (wakeOut false (length out)) h e r h' e'
-        → Listed (on layout (wakeOut false (length out)) h e .turn .woken) out out' → FirstWoken x q out out' (waiting e' (getD h' 1 0))
-    first-woken x q out out' l k d t =
+    pub first-woken : (x : ℕ) (q out out' : List ℕ) → waiting e (getD h 1 0) ≡ x ∷ q → 0 < length out → Wakes false h e out r h' out'
+        → FirstWoken x q out out' (waiting e (getD h' 1 0))
+    first-woken x q out out' l k d =
         let y : on layout (wakeOut false (length out)) h e ≡ record { num = mk val; turn = record { code = pos 1; queue = q; woken = woken ok x ∷ [] } } =
         rw (is-on layout (wakeOut false (length out)) h e m, l) (wakes-first (length out) val x q k) in
         let u : Well (x ∷ q) = rw l at g in
-        record { told = rw y at t; others = d .queue ∙ rw y refl; highest = u .sorted .0 }
+        record { told = rw y at (d .1); others = d .0 .queue ∙ rw y refl; highest = u .sorted .0 }
 
-    pub futex-val-set : (x : ℕ) → Does layout (setOut x) h e r h' e' → (r ≡ ok) × ValSet x (waiting e (getD h 1 0)) (layout .num h') (waiting e' (getD h' 1 0))
+    pub futex-val-set : (x : ℕ) → SetsVal x h e r h' → (r ≡ ok) × ValSet x (waiting e (getD h 1 0)) (layout .num h') (waiting e (getD h' 1 0))
     futex-val-set x d =
-        shown layout (setOut x) (λ c n q. (c ≡ ok) × ValSet x (waiting e (getD h 1 0)) n q) h e r h' e' d m (refl, record { inv = g; val = refl; waiters = refl })
+        shown layout (setOut x) (λ c n q. (c ≡ ok) × ValSet x (waiting e (getD h 1 0)) n q) h e r h' e d m (refl, record { inv = g; val = refl; waiters = refl })
 
-  pub all-woken : (out out' : List ℕ) → length (waiting e (getD h 1 0)) ≤ length out → Listed (on layout (wakeOut true (length out)) h e .turn .woken) out out'
-      → AllAreWoken ok (waiting e (getD h 1 0)) out out'
-  all-woken out out' k t = t ∙ rw (is-on layout (wakeOut true (length out)) h e m, wakes-all (length out) val queue k, length-map queue (woken ok)) refl
+  pub all-woken : (out out' : List ℕ) → length (waiting e (getD h 1 0)) ≤ length out → Wakes true h e out r h' out' → AllAreWoken ok (waiting e (getD h 1 0)) out out'
+  all-woken out out' k d = d .1 ∙ rw (is-on layout (wakeOut true (length out)) h e m, wakes-all (length out) val queue k, length-map queue (woken ok)) refl
 
   gets : (g : Futex → List ℕ → ℕ) → r ≡ on layout (getOut g) h e .turn .code → r ≡ pos (g (layout .num h) (waiting e (getD h 1 0)))
   gets g d = d ∙ rw (is-on layout (getOut g) h e m)
 
-  pub val-get : r ≡ on layout (getOut (λ s q. s .val)) h e .turn .code → ValGet (layout .num h) r
+  pub val-get : GetsVal h e r → ValGet (layout .num h) r
   val-get d = gets (λ s q. s .val) d
 
-  pub num-waiters : r ≡ on layout (getOut (λ s q. length q)) h e .turn .code → NumWaiters (waiting e (getD h 1 0)) r
+  pub num-waiters : CountsWaiters h e r → NumWaiters (waiting e (getD h 1 0)) r
   num-waiters d = gets (λ s q. length q) d
 
   abbrev Stays : ℤ → Type 0
-  Stays c = (r ≡ c) × (h' ≡ h) × (e' ≡ e)
+  Stays c = (r ≡ c) × (h' ≡ h)
+
+  read : {c : ℤ} → (r ≡ c) × (h' ≡ h) × (e ≡ e) → Stays c
+  read k = (k .0, k .1)
 
   -- upstream needs no room; with too little a wake is refused, and all wait on
-  pub wake-all-short : (out : List ℕ) → length out < length (waiting e (getD h 1 0)) → Does layout (wakeOut true (length out)) h e r h' e' → Stays einval
-  wake-all-short out k d =
-      unchanged layout (wakeOut true (length out)) h e r h' e' 21 d
-      (rw (is-on layout (wakeOut true (length out)) h e m, wakes-none (length out) val queue k))
+  pub wake-all-short : (out out' : List ℕ) → length out < length (waiting e (getD h 1 0)) → Wakes true h e out r h' out' → Stays einval
+  wake-all-short out out' k d =
+      read
+      (unchanged layout (wakeOut true (length out)) h e r h' e 21 (d .0)
+      (rw (is-on layout (wakeOut true (length out)) h e m, wakes-none (length out) val queue k)))
 
-  pub wake-one-short : (x : ℕ) (q out : List ℕ) → waiting e (getD h 1 0) ≡ x ∷ q → length out < 1 → Does layout (wakeOut false (length out)) h e r h' e' → Stays einval
-  wake-one-short x q out l k d =
-      unchanged layout (wakeOut false (length out)) h e r h' e' 21 d
-      (rw (is-on layout (wakeOut false (length out)) h e m, l, wakes-no-first (length out) val x q k))
+  pub wake-one-short : (x : ℕ) (q out out' : List ℕ) → waiting e (getD h 1 0) ≡ x ∷ q → length out < 1 → Wakes false h e out r h' out' → Stays einval
+  wake-one-short x q out out' l k d =
+      read
+      (unchanged layout (wakeOut false (length out)) h e r h' e 21 (d .0)
+      (rw (is-on layout (wakeOut false (length out)) h e m, l, wakes-no-first (length out) val x q k)))
 
   -- upstream demands of every wait that there is a place and that the thread is not here. With another value neither is looked at
-  pub wait-mismatch : (x i p : ℕ) → p < maxPriority → (getD h 0 0 ≡ x → ⊥) → Does layout (waitOut x i p running) h e r h' e' → Stays eagain
-  wait-mismatch x i p valid n d =
+  pub wait-mismatch : (x i p : ℕ) (e' : List ℕ) → p < maxPriority → (getD h 0 0 ≡ x → ⊥) → Waits x i p running h e r h' e'
+      → (r ≡ eagain) × (h' ≡ h) × (e' ≡ e)
+  wait-mismatch x i p e' valid n d =
       unchanged layout (waitOut x i p running) h e r h' e' 10 d (rw (is-on layout (waitOut x i p running) h e m, other-value x i p val queue valid n))
 
 -- what upstream demands is refused here: more that wait than can, or too little memory
-module _ (h e : List ℕ) (r : ℤ) (h' e' : List ℕ) (s : sane futex-kind layout h e ≡ false) where
+module _ (h e : List ℕ) (r : ℤ) (h' : List ℕ) (s : sane futex-kind layout h e ≡ false) where
   abbrev Same : Type 0
-  Same = (r ≡ einval) × (h' ≡ h) × (e' ≡ e)
+  Same = (r ≡ einval) × (h' ≡ h)
 
-  pub wait-refuses : (x i p st : ℕ) → Does layout (waitOut x i p st) h e r h' e' → Same
-  wait-refuses x i p st d = barred futex-kind layout h e (waitOut x i p st) r h' e' (λ n q z. clash z) s d
+  same : (r ≡ einval) × (h' ≡ h) × (e ≡ e) → Same
+  same k = (k .0, k .1)
 
-  pub wake-refuses : (b : Bool) (room : ℕ) → Does layout (wakeOut b room) h e r h' e' → Same
-  wake-refuses b room d = barred futex-kind layout h e (wakeOut b room) r h' e' (handed-no futex-kind plain anyone (wakeCall b) room) s d
+  pub wait-refuses : (x i p st : ℕ) (e' : List ℕ) → Waits x i p st h e r h' e' → Same × (e' ≡ e)
+  wait-refuses x i p st e' d = let k = barred futex-kind layout h e (waitOut x i p st) r h' e' (λ n q z. clash z) s d in ((k .0, k .1), k .2)
 
-  pub set-refuses : (x : ℕ) → Does layout (setOut x) h e r h' e' → Same
-  set-refuses x d = barred futex-kind layout h e (setOut x) r h' e' (λ n q z. clash z) s d
+  pub wake-refuses : (b : Bool) (out out' : List ℕ) → Wakes b h e out r h' out' → Same
+  wake-refuses b out out' d =
+      same (barred futex-kind layout h e (wakeOut b (length out)) r h' e (handed-no futex-kind plain anyone (wakeCall b) (length out)) s (d .0))
+
+  pub set-refuses : (x : ℕ) → SetsVal x h e r h' → Same
+  set-refuses x d = same (barred futex-kind layout h e (setOut x) r h' e (λ n q z. clash z) s d)
 
   pub get-refuses : (g : Futex → List ℕ → ℕ) → r ≡ on layout (getOut g) h e .turn .code → r ≡ einval
   get-refuses g d = d ∙ ap (λ (o : Out Futex). o .turn .code) (malformed futex-kind layout h e (getOut g) (λ n q z. clash z) s)
@@ -407,13 +415,13 @@ module _ (b : Bool) (room : ℕ) (h e : List ℕ) where
   pub woken-bounded : Bounded b room h e
   woken-bounded = record { limit = few-enough; woken = within }
 
-  pub wake-few : (r : ℤ) (h' e' : List ℕ) → Does layout (wakeOut b room) h e r h' e' → WakeFew b (waiting e (getD h 1 0)) r
-  wake-few r h' e' d =
-      record {
-        few = λ n z. at-most room (getD h 0 0) n b (waiting e (getD h 1 0)) (told n (sym (d .code) ∙ z));
-        one-few = λ y n z. lone y n (told n (sym (d .code) ∙ z));
-        bounded = λ n z. within n (sym (d .code) ∙ z);
-      }
-    where
-      lone : b ≡ false → (n : ℕ) → wakeOut b room (layout .num h) (waiting e (getD h 1 0)) .turn .code ≡ pos n → n ≤ 1
-      lone y n z = one-at-most room (getD h 0 0) n (waiting e (getD h 1 0)) (rw y at z)
+pub wake-few : (b : Bool) (h e out : List ℕ) (r : ℤ) (h' out' : List ℕ) → Wakes b h e out r h' out' → WakeFew b (waiting e (getD h 1 0)) r
+wake-few b h e out r h' out' d =
+    record {
+      few = λ n z. at-most (length out) (getD h 0 0) n b (waiting e (getD h 1 0)) (told b (length out) h e n (sym (d .0 .code) ∙ z));
+      one-few = λ y n z. lone y n (told b (length out) h e n (sym (d .0 .code) ∙ z));
+      bounded = λ n z. within b (length out) h e n (sym (d .0 .code) ∙ z);
+    }
+  where
+    lone : b ≡ false → (n : ℕ) → wakeOut b (length out) (layout .num h) (waiting e (getD h 1 0)) .turn .code ≡ pos n → n ≤ 1
+    lone y n z = one-at-most (length out) (getD h 0 0) n (waiting e (getD h 1 0)) (rw y at z)

@@ -10,7 +10,8 @@ use Rattle.thread.specs.Code.{einval}
 use Rattle.wait_queue.specs.Queue.{maxWaiters}
 use Rattle.kind.specs.Verdict.{answer}
 use Rattle.kind.specs.Kind.{judge, plain}
-use Rattle.kind.specs.Object.{Out, anyone, thread, call, handed, looks, Layout, Started}
+use Rattle.kind.specs.Object.{Out, anyone, thread, call, handed, looks, Layout, on, Does, Started, Audited}
+use Rattle.kind.specs.Post.{Lists}
 use Rattle.futex.specs.Futex.{Futex, Call, wait, wakeOne, wakeAll, set, futex-kind}
 
 abbrev pub layout : Layout Futex
@@ -35,9 +36,30 @@ setOut x = call futex-kind plain anyone (set x)
 abbrev pub getOut : (Futex → List ℕ → ℕ) → Futex → List ℕ → Out Futex
 getOut f = looks futex-kind (λ s q. pos (f s q))
 
+-- The contract of each public function: its numbers, what it is lent, its answer, and what it leaves.
+
 -- a new futex
 abbrev pub Starts : ℕ → List ℕ → ℤ → List ℕ → Type 0
-Starts val = Started futex-kind layout (record { val = val })
+Starts val h r h' = Started futex-kind layout (record { val = val }) h r h'
+
+abbrev pub Waits : ℕ → ℕ → ℕ → ℕ → List ℕ → List ℕ → ℤ → List ℕ → List ℕ → Type 0
+Waits expected i p st h e r h' e' = Does layout (waitOut expected i p st) h e r h' e'
+
+-- all, or one
+abbrev pub Wakes : Bool → List ℕ → List ℕ → List ℕ → ℤ → List ℕ → List ℕ → Type 0
+Wakes all h e out r h' out' = Lists layout (wakeOut all (length out)) h e out r h' out'
+
+abbrev pub SetsVal : ℕ → List ℕ → List ℕ → ℤ → List ℕ → Type 0
+SetsVal val h e r h' = Does layout (setOut val) h e r h' e
+
+abbrev pub GetsVal : List ℕ → List ℕ → ℤ → Type 0
+GetsVal h e r = r ≡ on layout (getOut (λ s q. s .val)) h e .turn .code
+
+abbrev pub CountsWaiters : List ℕ → List ℕ → ℤ → Type 0
+CountsWaiters h e r = r ≡ on layout (getOut (λ s q. length q)) h e .turn .code
+
+abbrev pub Audits : List ℕ → List ℕ → Bool → Type 0
+Audits h e r = Audited futex-kind layout h e r
 
 -- on plain numbers: what the futex's own definition answers for every queue
 abbrev pub WaitDecided : ℕ → ℕ → ℤ → Type 0

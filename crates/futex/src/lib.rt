@@ -6,13 +6,9 @@ use thread::OK;
 use thread::RUNNING;
 use wait_queue::WAITS;
 ghost use mathlib.Core.Path.{_≡_};
-ghost use Prim.Native.Nat.{ℕ};
-ghost use mathlib.Core.List.{List};
-ghost use lib.ListN.{length};
-ghost use Rattle.wait_queue.specs.Post.{Listed};
-ghost use Rattle.kind.specs.Object.{on, Does, sane, Audited};
-ghost use Rattle.futex.specs.Futex.{Futex, futex-kind};
-ghost use Rattle.futex.specs.Post.{layout, waitOut, wakeOut, setOut, getOut, Starts, WaitDecided, WakeDecided};
+ghost use Rattle.kind.specs.Object.{sane};
+ghost use Rattle.futex.specs.Futex.{futex-kind};
+ghost use Rattle.futex.specs.Post.{layout, Starts, Waits, Wakes, SetsVal, GetsVal, CountsWaiters, Audits, WaitDecided, WakeDecided};
 
 // Whether the memory is as it should be; every value is.
 fn formed(h: &[u32], e: &[u64]) -> bool
@@ -67,7 +63,7 @@ pub fn init(h: &mut [u32], val: u32) -> i32
 
 // WAITS: the value is the expected one, and the thread waits, behind all of equal or higher priority; EAGAIN: it is another.
 pub fn wait(h: &mut [u32], e: &mut [u64], expected: u32, id: u32, priority: u32, state: u32) -> i32
-    ensures { λ r. ⌜ Does layout (waitOut expected id priority state) (now (h .entry)) (now (e .entry)) r (now (h .exit)) (now (e .exit)) ⌝ }
+    ensures { λ r. ⌜ Waits expected id priority state (now (h .entry)) (now (e .entry)) r (now (h .exit)) (now (e .exit)) ⌝ }
 {
     if !formed(h, e) {
         return EINVAL;
@@ -86,8 +82,7 @@ pub fn wait(h: &mut [u32], e: &mut [u64], expected: u32, id: u32, priority: u32,
 
 // How many were woken: the first or all, each with 0.
 pub fn wake(h: &mut [u32], e: &[u64], wake_all: bool, out: &mut [u64]) -> i32
-    ensures { λ r. ⌜ Does layout (wakeOut «wake_all» (length (now (out .entry)))) (now (h .entry)) (now (e .entry)) r (now (h .exit)) (now (e .entry)) ⌝ }
-    ensures { λ r. ⌜ Listed (on layout (wakeOut «wake_all» (length (now (out .entry)))) (now (h .entry)) (now (e .entry)) .turn .woken) (now (out .entry)) (now (out .exit)) ⌝ }
+    ensures { λ r. ⌜ Wakes «wake_all» (now (h .entry)) (now (e .entry)) (now (out .entry)) r (now (h .exit)) (now (out .exit)) ⌝ }
 {
     if !formed(h, e) {
         return EINVAL;
@@ -107,7 +102,7 @@ pub fn wake(h: &mut [u32], e: &[u64], wake_all: bool, out: &mut [u64]) -> i32
 
 // OK: the value is val, and nobody is woken.
 pub fn val_set(h: &mut [u32], e: &[u64], val: u32) -> i32
-    ensures { λ r. ⌜ Does layout (setOut val) (now (h .entry)) (now (e .entry)) r (now (h .exit)) (now (e .entry)) ⌝ }
+    ensures { λ r. ⌜ SetsVal val (now (h .entry)) (now (e .entry)) r (now (h .exit)) ⌝ }
 {
     if !formed(h, e) {
         return EINVAL;
@@ -117,7 +112,7 @@ pub fn val_set(h: &mut [u32], e: &[u64], val: u32) -> i32
 }
 
 pub fn val_get(h: &[u32], e: &[u64]) -> i64
-    ensures { λ r. ⌜ r ≡ on layout (getOut (λ (s : Futex) (q : List ℕ). s .val)) (now (h .entry)) (now (e .entry)) .turn .code ⌝ }
+    ensures { λ r. ⌜ GetsVal (now (h .entry)) (now (e .entry)) r ⌝ }
 {
     if !formed(h, e) {
         return -22;
@@ -126,7 +121,7 @@ pub fn val_get(h: &[u32], e: &[u64]) -> i64
 }
 
 pub fn num_waiters(h: &[u32], e: &[u64]) -> i64
-    ensures { λ r. ⌜ r ≡ on layout (getOut (λ (s : Futex) (q : List ℕ). length q)) (now (h .entry)) (now (e .entry)) .turn .code ⌝ }
+    ensures { λ r. ⌜ CountsWaiters (now (h .entry)) (now (e .entry)) r ⌝ }
 {
     if !formed(h, e) {
         return -22;
@@ -136,7 +131,7 @@ pub fn num_waiters(h: &[u32], e: &[u64]) -> i64
 
 // Whether the whole futex is well formed.
 pub fn audit(h: &[u32], e: &[u64]) -> bool
-    ensures { λ r. ⌜ Audited futex-kind layout (now (h .entry)) (now (e .entry)) r ⌝ }
+    ensures { λ r. ⌜ Audits (now (h .entry)) (now (e .entry)) r ⌝ }
 {
     if !formed(h, e) {
         return false;

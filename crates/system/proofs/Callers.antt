@@ -13,11 +13,12 @@ use Rattle.wait_queue.specs.Post.{Told, Listed}
 use Rattle.kind.specs.Verdict.{keep, park, wake, Verdict, deny, allow}
 use Rattle.kind.specs.Kind.{Kind, Lawful}
 use Rattle.kind.specs.Object as object
-use Rattle.kind.specs.Object.{Out, named, thread, carried, call, handed, Layout}
+use Rattle.kind.specs.Object.{Out, named, thread, carried, call, handed, Layout, on, Does}
+use Rattle.kind.specs.Post.{Tells, Lists}
 use Rattle.system.specs.Part.{Part}
 use Rattle.system.specs.System.{absent, running, number, Sys, outcome, verdict, called}
 use Rattle.system.specs.Rules.{Fine}
-use Rattle.system.specs.Functions.{Use, Did, given, heard, Silent, InWord, InSlice}
+use Rattle.system.specs.Functions.{Use, heard}
 use Rattle.system.specs.Link.{Is, read, word, fate, Truthful, Steps}
 use Rattle.system.proofs.Sheets.{Fits}
 use Rattle.system.proofs.Parts.{wrapped, call-part}
@@ -61,6 +62,17 @@ module _ {A K : Kind} (law : Lawful K) (P : Part A K) (fits : Fits P) (L : Layou
   abbrev Same : (A .Num → List ℕ → Out (A .Num)) → Type 0
   Same f = outcome s i o (P .call k) (P .num n) ≡ wrapped (P .num) (f n q)
 
+  -- what f does to the memory, and whom it hands out; the entries may be only read
+  abbrev Did : (A .Num → List ℕ → Out (A .Num)) → Type 0
+  Did f = Does L f (u .before .header) (u .before .entries) (u .answer) (u .after .header) (u .after .entries)
+
+  abbrev given : (A .Num → List ℕ → Out (A .Num)) → List ℕ
+  given f = on L f (u .before .header) (u .before .entries) .turn .woken
+
+  reads : (f : A .Num → List ℕ → Out (A .Num)) → Does L f (u .before .header) (u .before .entries) (u .answer) (u .after .header) (u .before .entries)
+      → u .after .entries ≡ u .before .entries → Did f
+  reads f d z = subst (λ (x : List ℕ). Does L f (u .before .header) (u .before .entries) (u .answer) (u .after .header) x) (sym z) d
+
   module _ (few : Within m c q (A .decide n v (map ident q) i k)) where
     whole : Within m c q (verdict s i o (P .call k) (P .num n))
     whole = rw (fits .decides n (s .wish) (map ident q) i k) (within-part m c q (P .num) (P .wish) (A .decide n v (map ident q) i k) few)
@@ -68,14 +80,14 @@ module _ {A K : Kind} (law : Lawful K) (P : Part A K) (fits : Fits P) (L : Layou
     at-most : length (called s i o (P .call k) .2) ≤ m (length q)
     at-most = handed-few s g i o (P .call k) (P .num n) (is .slot) m c whole
 
-    module _ (a : Bool) (fates : Fated a (A .decide n v (map ident q) i k)) (f : A .Num → List ℕ → Out (A .Num)) (same : Same f) (d : Did L f u) where
+    module _ (a : Bool) (fates : Fated a (A .decide n v (map ident q) i k)) (f : A .Num → List ℕ → Out (A .Num)) (same : Same f) (d : Did f) where
       abbrev h : List ℕ
       h = u .before .header
 
       abbrev e : List ℕ
       e = u .before .entries
 
-      words : given L f u ≡ map word (called s i o (P .call k) .2)
+      words : given f ≡ map word (called s i o (P .call k) .2)
       words = gives law L (P .num) s g i o (P .call k) f h e is same m c whole
 
       stepped : (Listed (map word (called s i o (P .call k) .2)) (u .lent) (u .filled)) → Steps L (P .num) s i o (P .call k) a c u
@@ -101,13 +113,13 @@ module _ {A K : Kind} (law : Lawful K) (P : Part A K) (fits : Fits P) (L : Layou
       pub silent : m (length q) ≤ 0 → u .lent ≡ [] → u .filled ≡ [] → Steps L (P .num) s i o (P .call k) a c u
       silent z a b = stepped (in-none (called s i o (P .call k) .2) (u .lent) (u .filled) a b (omega (arith, at-most, z)))
 
-      pub in-a-word : m (length q) ≤ 1 → (w w' : ℕ) → u .lent ≡ w ∷ [] → u .filled ≡ w' ∷ [] → Told (given L f u) w w'
+      pub in-a-word : m (length q) ≤ 1 → (w w' : ℕ) → u .lent ≡ w ∷ [] → u .filled ≡ w' ∷ [] → Told (given f) w w'
           → Steps L (P .num) s i o (P .call k) a c u
       in-a-word z w w' a b t =
           stepped (in-word (called s i o (P .call k) .2) w w' (u .lent) (u .filled) a b (omega (arith, at-most, z))
           (subst (λ (y : List ℕ). Told y w w') words t))
 
-      pub in-a-slice : Listed (given L f u) (u .lent) (u .filled) → Steps L (P .num) s i o (P .call k) a c u
+      pub in-a-slice : Listed (given f) (u .lent) (u .filled) → Steps L (P .num) s i o (P .call k) a c u
       in-a-slice x = stepped (subst (λ (y : List ℕ). Listed y (u .lent) (u .filled)) words x)
 
     -- the function is told the thread's numbers
@@ -119,8 +131,8 @@ module _ {A K : Kind} (law : Lawful K) (P : Part A K) (fits : Fits P) (L : Layou
         cc in x)
 
     pub by-thread : Fated true (A .decide n v (map ident q) i k) → Truthful s i u → m (length q) ≤ 0
-        → Silent L (call A v (thread (u .id) (u .priority) (u .state)) k) u → Steps L (P .num) s i o (P .call k) true c u
-    by-thread y t z x = silent true y _ (as-thread t) (x .does) z (x .lent) (x .filled)
+        → Did (call A v (thread (u .id) (u .priority) (u .state)) k) → u .lent ≡ [] → u .filled ≡ [] → Steps L (P .num) s i o (P .call k) true c u
+    by-thread y t z d = silent true y _ (as-thread t) d z
 
     -- it is told a name at most, and a thread that runs calls it
     module _ (j : ℕ) (run : s .state i ≡ running) (same : A .decide n v (map ident q) i k ≡ A .decide n v (map ident q) j k)
@@ -134,11 +146,14 @@ module _ {A K : Kind} (law : Lawful K) (P : Part A K) (fits : Fits P) (L : Layou
           (call-part P fits (s .wish) (thread i (s .prio i) 1) k n q ∙ ap (wrapped (P .num))
           (call-named A v i (s .prio i) j k n q (runs-valid s g i run) same stays))
 
-      pub by-name : m (length q) ≤ 0 → Silent L (call A v (named j) k) u → Steps L (P .num) s i o (P .call k) false c u
-      by-name z x = silent false fates _ as-named (x .does) z (x .lent) (x .filled)
+      pub by-name : m (length q) ≤ 0 → Does L (call A v (named j) k) (u .before .header) (u .before .entries) (u .answer) (u .after .header) (u .before .entries)
+          → u .after .entries ≡ u .before .entries → u .lent ≡ [] → u .filled ≡ [] → Steps L (P .num) s i o (P .call k) false c u
+      by-name z d e = silent false fates _ as-named (reads _ d e) z
 
-      pub by-word : m (length q) ≤ 1 → InWord L (call A v (named j) k) u → Steps L (P .num) s i o (P .call k) false c u
-      by-word z x = in-a-word false fates _ as-named (x .does) z (x .who) (x .who') (x .lent) (x .filled) (x .told)
+      pub by-word : m (length q) ≤ 1 → (w w' : ℕ)
+          → Tells L (call A v (named j) k) (u .before .header) (u .before .entries) w (u .answer) (u .after .header) w'
+          → u .after .entries ≡ u .before .entries → u .lent ≡ w ∷ [] → u .filled ≡ w' ∷ [] → Steps L (P .num) s i o (P .call k) false c u
+      by-word z w w' d e a b = in-a-word false fates _ as-named (reads _ (d .0) e) z w w' a b (d .1)
 
       -- there is room for all that are woken
       as-handed : m (length q) ≤ length (u .lent) → Same (handed (length (u .lent)) (call A v (named j) k))
@@ -150,5 +165,7 @@ module _ {A K : Kind} (law : Lawful K) (P : Part A K) (fits : Fits P) (L : Layou
           omega (arith, l, at-most, ap length (sym e ∙ w), length-map (called s i o (P .call k) .2) word) in
           as-named ∙ ap (wrapped (P .num)) (rw (le-leb (length (call A v (named j) k n q .turn .woken)) (length (u .lent)) c) refl)
 
-      pub by-slice : m (length q) ≤ length (u .lent) → InSlice L (λ room. handed room (call A v (named j) k)) u → Steps L (P .num) s i o (P .call k) false c u
-      by-slice l x = in-a-slice false fates _ (as-handed l) (x .does) (x .listed)
+      pub by-slice : m (length q) ≤ length (u .lent)
+          → Lists L (handed (length (u .lent)) (call A v (named j) k)) (u .before .header) (u .before .entries) (u .lent) (u .answer) (u .after .header) (u .filled)
+          → u .after .entries ≡ u .before .entries → Steps L (P .num) s i o (P .call k) false c u
+      by-slice l d e = in-a-slice false fates _ (as-handed l) (reads _ (d .0) e) (d .1)

@@ -93,52 +93,56 @@ module _ {K : Kind} (law : Lawful K) where
   sem-links P fits give s g i o u is c d =
       let n = semaphore.layout .num (u .before .header) in
       by-word law P fits semaphore.layout sem.give single (semFn give .wrote) s g i o u is (gives-within n (s .queue o) i) 0 (c .runs refl) refl
-      (gives-unparked n (map ident (s .queue o))) (omega arith) d
+      (gives-unparked n (map ident (s .queue o))) (omega arith) (d .who) (d .who') (d .does) (d .entries) (d .lent) (d .filled)
   sem-links P fits tryTake s g i o u is c d =
       let n = semaphore.layout .num (u .before .header) in
       by-name law P fits semaphore.layout sem.tryTake nobody nobody s g i o u is (within nobody nobody (s .queue o) (ltb 0 (n .count)) _ _ refl refl) 0
-      (c .runs refl) refl (unparked (ltb 0 (n .count)) _ _ tt tt) (omega arith) d
+      (c .runs refl) refl (unparked (ltb 0 (n .count)) _ _ tt tt) (omega arith)
+      (d .does) (d .entries) (d .lent) (d .filled)
   sem-links P fits takeBlocking s g i o u is c d =
       let n = semaphore.layout .num (u .before .header) in
       by-thread law P fits semaphore.layout sem.take nobody nobody s g i o u is (within nobody nobody (s .queue o) (ltb 0 (n .count)) _ _ refl refl)
-      (fated true (ltb 0 (n .count)) _ _ (λ o x. refl) refl) (c .told) (omega arith) d
+      (fated true (ltb 0 (n .count)) _ _ (λ o x. refl) refl) (c .told) (omega arith) (d .does) (d .lent) (d .filled)
   sem-links P fits reset s g i o u is c d =
-      by-slice law P fits semaphore.layout sem.reset everyone everyone s g i o u is (all-within (s .queue o) eagain refl) 0 (c .runs refl) refl tt (c .room) d
+      by-slice law P fits semaphore.layout sem.reset everyone everyone s g i o u is (all-within (s .queue o) eagain refl) 0 (c .runs refl) refl tt (c .room)
+      (d .does) (d .entries)
 
   pub mutex-links : (P : Part mutex-kind K) → Fits P → (f : MutexFn) → Links P lock.layout (mutexFn f)
   mutex-links P fits tryLock s g i o u is c d =
       let n = lock.layout .num (u .before .header) in
       by-name law P fits lock.layout mutex.tryLock nobody nobody s g i o u is (locks-within n i (s .queue o) (deny ebusy) refl) (u .id) (c .runs refl)
       (ap (λ (j : ℕ). locks (lock.layout .num (u .before .header)) j (deny ebusy)) (sym (c .told .id))) (locks-unparked n (u .id) (deny ebusy) tt)
-      (omega arith) d
+      (omega arith) (d .does .0) (d .entries) (d .lent) (d .filled)
   mutex-links P fits lockBlocking s g i o u is c d =
       by-thread law P fits lock.layout mutex.lock nobody nobody s g i o u is (locks-within (lock.layout .num (u .before .header)) i (s .queue o) _ refl)
-      (locks-fated (lock.layout .num (u .before .header)) i) (c .told) (omega arith) d
+      (locks-fated (lock.layout .num (u .before .header)) i) (c .told) (omega arith) (d .does .0) (d .lent) (d .filled)
   mutex-links P fits unlock s g i o u is c d =
       by-word law P fits lock.layout mutex.unlock single (onlyAt 2) s g i o u is (unlocks-within (lock.layout .num (u .before .header)) i (s .queue o) _ refl)
       (u .id) (c .runs refl)
       (ap (λ (j : ℕ). mutex.decide (lock.layout .num (u .before .header)) plain (map ident (s .queue o)) j mutex.unlock) (sym (c .told .id)))
-      (unlocks-unparked (lock.layout .num (u .before .header)) (u .id) (map ident (s .queue o)) _ tt) (omega arith) d
+      (unlocks-unparked (lock.layout .num (u .before .header)) (u .id) (map ident (s .queue o)) _ tt) (omega arith)
+      (d .who) (d .who') (d .does .0) (d .entries) (d .lent) (d .filled)
 
   pub condvar-links : (P : Part condvar-kind K) → Fits P → (f : CondvarFn) → Links P condition.layout (condvarFn f)
   condvar-links P fits signal s g i o u is c d =
       by-word law P fits condition.layout condvar.signal single everyone s g i o u is (signals-within (s .queue o) i) 0 (c .runs refl) refl
-      (unparked (any (map ident (s .queue o))) _ _ tt tt) (omega arith) d
+      (unparked (any (map ident (s .queue o))) _ _ tt tt) (omega arith) (d .who) (d .who') (d .does) (d .entries) (d .lent) (d .filled)
   condvar-links P fits broadcast s g i o u is c d =
       by-slice law P fits condition.layout condvar.broadcast everyone everyone s g i o u is (all-within (s .queue o) ok refl) 0 (c .runs refl) refl tt
-      (c .room) d
+      (c .room) (d .does) (d .entries)
 
   pub futex-links : (P : Part futex-kind K) → Fits P → (f : FutexFn) → Links P value.layout (futexFn f)
   futex-links P fits (wait x) s g i o u is c d =
       by-thread law P fits value.layout (futex.wait x) nobody nobody s g i o u is
       (within nobody nobody (s .queue o) (eqb (value.layout .num (u .before .header) .val) x) _ _ refl refl)
-      (fated true (eqb (value.layout .num (u .before .header) .val) x) _ _ refl (λ o x. refl)) (c .told) (omega arith) d
+      (fated true (eqb (value.layout .num (u .before .header) .val) x) _ _ refl (λ o x. refl)) (c .told) (omega arith) (d .does)
+      (d .lent) (d .filled)
   futex-links P fits (wake true) s g i o u is c d =
       by-slice law P fits value.layout futex.wakeAll (wakeRoom true) everyone s g i o u is (all-within (s .queue o) ok refl) 0 (c .runs refl) refl tt
-      (c .room) d
+      (c .room) (d .does) (d .entries)
   futex-links P fits (wake false) s g i o u is c d =
       by-slice law P fits value.layout futex.wakeOne (wakeRoom false) everyone s g i o u is
       (wakes-within (value.layout .num (u .before .header)) (s .queue o) i) 0
-      (c .runs refl) refl (unparked (any (map ident (s .queue o))) _ _ tt tt) (c .room) d
+      (c .runs refl) refl (unparked (any (map ident (s .queue o))) _ _ tt tt) (c .room) (d .does) (d .entries)
   futex-links P fits (valSet x) s g i o u is c d =
-      by-name law P fits value.layout (futex.set x) nobody nobody s g i o u is refl 0 (c .runs refl) refl tt (omega arith) d
+      by-name law P fits value.layout (futex.set x) nobody nobody s g i o u is refl 0 (c .runs refl) refl tt (omega arith) (d .does) (d .entries) (d .lent) (d .filled)

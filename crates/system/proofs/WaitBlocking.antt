@@ -17,7 +17,7 @@ use Rattle.mutex.specs.Post.{releaseOut}
 use Rattle.condvar.specs.Condvar as condvar
 use Rattle.condvar.specs.Condvar.{condvar-kind}
 use Rattle.condvar.specs.Post as condition
-use Rattle.condvar.specs.Post.{agreed, Allowed, Waited}
+use Rattle.condvar.specs.Post.{agreed, Allowed, Waits}
 use Rattle.system.specs.Part.{Part}
 use Rattle.system.specs.System.{number, Sys, reply, called, answers}
 use Rattle.system.specs.Rules.{Fine}
@@ -46,11 +46,11 @@ module _ {K : Kind} (law : Lawful K) (P : Part mutex-kind K) (fits : Fits P) (C 
   e = u .before .entries
 
   honest : (l q v : ℕ) → l ≡ i → q ≡ s .prio i → v ≡ number (s .state i)
-      → Waited l q v (c .header) (c .entries) h e (d .who) (u .answer) (c' .header) (c' .entries) (u .after .header) (d .who')
-      → Waited i (s .prio i) (number (s .state i)) (c .header) (c .entries) h e (d .who) (u .answer) (c' .header) (c' .entries) (u .after .header) (d .who')
+      → Waits l q v (c .header) (c .entries) h e (d .who) (u .answer) (c' .header) (c' .entries) (u .after .header) (d .who')
+      → Waits i (s .prio i) (number (s .state i)) (c .header) (c .entries) h e (d .who) (u .answer) (c' .header) (c' .entries) (u .after .header) (d .who')
   honest l q v el eq ev w = rw (el, eq, ev) at w
 
-  waited : Waited i (s .prio i) (number (s .state i)) (c .header) (c .entries) h e (d .who) (u .answer) (c' .header) (c' .entries) (u .after .header) (d .who')
+  waited : Waits i (s .prio i) (number (s .state i)) (c .header) (c .entries) h e (d .who) (u .answer) (c' .header) (c' .entries) (u .after .header) (d .who')
   waited = honest (u .id) (u .priority) (u .state) (t .id) (t .priority) (t .state) (d .waited)
 
   said : u .answer ≡ answers s i a j b k

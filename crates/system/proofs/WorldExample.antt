@@ -122,12 +122,12 @@ ran =
     (calls 1 0 (aSem (record { count = 0; limit = 2 })) give gives refl refl refl
     (record { told = record { id = refl; priority = refl; state = refl }; runs = λ e. refl; room = omega arith })
     (record {
-      does = record { code = refl; num = refl; queue = refl; kept = tt; beside = refl; rest = refl; long = (refl, refl) };
       who = 99;
       who' = 7;
+      does = (record { code = refl; num = refl; queue = refl; kept = tt; beside = refl; rest = refl; long = (refl, refl) }, refl);
+      entries = refl;
       lent = refl;
       filled = refl;
-      told = refl;
     }))
     (elsewhere taken (words 2 0 (entry 5 7 ∷ zeros 63)))
 

@@ -5,10 +5,8 @@ use mathlib.Core.List.{List, [], _∷_}
 use Prim.Native.Nat.{ℕ}
 use lib.Dec.{eqb}
 use lib.IntN.{ℤ, pos, negsuc}
-use lib.ListN.{length, take}
-use Rattle.wait_queue.specs.Post.{Told, Listed}
+use lib.ListN.{take}
 use Rattle.kind.specs.Kind.{Kind}
-use Rattle.kind.specs.Object.{Out, Layout, on, Does}
 use Rattle.sem.specs.Sem as sem
 use Rattle.sem.specs.Sem.{sem-kind}
 use Rattle.sem.specs.Post as semaphore
@@ -18,7 +16,6 @@ use Rattle.mutex.specs.Post as lock
 use Rattle.condvar.specs.Condvar as condvar
 use Rattle.condvar.specs.Condvar.{condvar-kind}
 use Rattle.condvar.specs.Post as condition
-use Rattle.condvar.specs.Post.{Waited}
 use Rattle.futex.specs.Futex as futex
 use Rattle.futex.specs.Futex.{futex-kind}
 use Rattle.futex.specs.Post as value
@@ -67,31 +64,30 @@ heard c (negsuc r) = 0
 abbrev pub told : (ℕ → ℕ) → Use → List ℕ
 told c u = take (heard c (u .answer)) (u .filled)
 
-module _ {N : Type 0} (L : Layout N) where
-  abbrev pub Did : (N → List ℕ → Out N) → Use → Type 0
-  Did f u = Does L f (u .before .header) (u .before .entries) (u .answer) (u .after .header) (u .after .entries)
+-- By its contract C a function writes the header and the entries, and hands nobody out
+pub record Joins (C : List ℕ → List ℕ → ℤ → List ℕ → List ℕ → Type 0) (u : Use) : Type 0 where
+  pub does : C (u .before .header) (u .before .entries) (u .answer) (u .after .header) (u .after .entries)
+  pub lent : u .lent ≡ []
+  pub filled : u .filled ≡ []
 
-  -- what the contract says that is handed out
-  abbrev pub given : (N → List ℕ → Out N) → Use → List ℕ
-  given f u = on L f (u .before .header) (u .before .entries) .turn .woken
+-- it only reads the entries, and hands nobody out; writes one word; writes a slice
+pub record Silent (C : List ℕ → List ℕ → ℤ → List ℕ → Type 0) (u : Use) : Type 0 where
+  pub does : C (u .before .header) (u .before .entries) (u .answer) (u .after .header)
+  pub entries : u .after .entries ≡ u .before .entries
+  pub lent : u .lent ≡ []
+  pub filled : u .filled ≡ []
 
-  -- the contract of a function that hands nobody out; of one that writes one word; of one that writes a slice
-  pub record Silent (f : N → List ℕ → Out N) (u : Use) : Type 0 where
-    pub does : Did f u
-    pub lent : u .lent ≡ []
-    pub filled : u .filled ≡ []
+pub record InWord (C : List ℕ → List ℕ → ℕ → ℤ → List ℕ → ℕ → Type 0) (u : Use) : Type 0 where
+  pub who : ℕ
+  pub who' : ℕ
+  pub does : C (u .before .header) (u .before .entries) who (u .answer) (u .after .header) who'
+  pub entries : u .after .entries ≡ u .before .entries
+  pub lent : u .lent ≡ who ∷ []
+  pub filled : u .filled ≡ who' ∷ []
 
-  pub record InWord (f : N → List ℕ → Out N) (u : Use) : Type 0 where
-    pub does : Did f u
-    pub who : ℕ
-    pub who' : ℕ
-    pub lent : u .lent ≡ who ∷ []
-    pub filled : u .filled ≡ who' ∷ []
-    pub told : Told (given f u) who who'
-
-  pub record InSlice (f : ℕ → N → List ℕ → Out N) (u : Use) : Type 0 where
-    pub does : Did (f (length (u .lent))) u
-    pub listed : Listed (given (f (length (u .lent))) u) (u .lent) (u .filled)
+pub record InSlice (C : List ℕ → List ℕ → List ℕ → ℤ → List ℕ → List ℕ → Type 0) (u : Use) : Type 0 where
+  pub does : C (u .before .header) (u .before .entries) (u .lent) (u .answer) (u .after .header) (u .filled)
+  pub entries : u .after .entries ≡ u .before .entries
 
 -- how many words are lent, or written: none; one; as many as wait, or as the answer says; one, if the answer is a
 abbrev pub nobody : ℕ → ℕ
@@ -110,40 +106,39 @@ pub data SemFn : Type 0 where
   give tryTake takeBlocking reset : SemFn
 
 abbrev pub semFn : SemFn → Function sem-kind
-semFn give = record { call = sem.give; asks = false; room = single; wrote = onlyAt 0; Contract = InWord semaphore.layout semaphore.giveOut }
-semFn tryTake = record { call = sem.tryTake; asks = false; room = nobody; wrote = nobody; Contract = Silent semaphore.layout semaphore.tryTakeOut }
+semFn give = record { call = sem.give; asks = false; room = single; wrote = onlyAt 0; Contract = InWord semaphore.Gives }
+semFn tryTake = record { call = sem.tryTake; asks = false; room = nobody; wrote = nobody; Contract = Silent semaphore.TriesTake }
 semFn takeBlocking =
     record {
       call = sem.take;
       asks = true;
       room = nobody;
       wrote = nobody;
-      Contract = λ u. Silent semaphore.layout (semaphore.takeOut (u .id) (u .priority) (u .state)) u;
+      Contract = λ u. Joins (semaphore.Takes (u .id) (u .priority) (u .state)) u;
     }
-semFn reset = record { call = sem.reset; asks = false; room = everyone; wrote = everyone; Contract = InSlice semaphore.layout semaphore.resetOut }
+semFn reset = record { call = sem.reset; asks = false; room = everyone; wrote = everyone; Contract = InSlice semaphore.Resets }
 
 pub data MutexFn : Type 0 where
   tryLock lockBlocking unlock : MutexFn
 
 abbrev pub mutexFn : MutexFn → Function mutex-kind
-mutexFn tryLock = record { call = mutex.tryLock; asks = false; room = nobody; wrote = nobody; Contract = λ u. Silent lock.layout (lock.tryLockOut (u .id)) u }
+mutexFn tryLock = record { call = mutex.tryLock; asks = false; room = nobody; wrote = nobody; Contract = λ u. Silent (lock.TriesLock (u .id)) u }
 mutexFn lockBlocking =
     record {
       call = mutex.lock;
       asks = true;
       room = nobody;
       wrote = nobody;
-      Contract = λ u. Silent lock.layout (lock.lockOut (u .id) (u .priority) (u .state)) u;
+      Contract = λ u. Joins (lock.Locks (u .id) (u .priority) (u .state)) u;
     }
-mutexFn unlock = record { call = mutex.unlock; asks = false; room = single; wrote = onlyAt 2; Contract = λ u. InWord lock.layout (lock.unlockOut (u .id)) u }
+mutexFn unlock = record { call = mutex.unlock; asks = false; room = single; wrote = onlyAt 2; Contract = λ u. InWord (lock.Unlocks (u .id)) u }
 
 pub data CondvarFn : Type 0 where
   signal broadcast : CondvarFn
 
 abbrev pub condvarFn : CondvarFn → Function condvar-kind
-condvarFn signal = record { call = condvar.signal; asks = false; room = single; wrote = everyone; Contract = InWord condition.layout condition.signalOut }
-condvarFn broadcast =
-    record { call = condvar.broadcast; asks = false; room = everyone; wrote = everyone; Contract = InSlice condition.layout condition.broadcastOut }
+condvarFn signal = record { call = condvar.signal; asks = false; room = single; wrote = everyone; Contract = InWord condition.Signals }
+condvarFn broadcast = record { call = condvar.broadcast; asks = false; room = everyone; wrote = everyone; Contract = InSlice condition.Broadcasts }
 
 pub data FutexFn : Type 0 where
   wait : (expected : ℕ) → FutexFn
@@ -162,11 +157,10 @@ futexFn (wait x) =
       asks = true;
       room = nobody;
       wrote = nobody;
-      Contract = λ u. Silent value.layout (value.waitOut x (u .id) (u .priority) (u .state)) u;
+      Contract = λ u. Joins (value.Waits x (u .id) (u .priority) (u .state)) u;
     }
-futexFn (wake all) =
-    record { call = value.wakeCall all; asks = false; room = wakeRoom all; wrote = everyone; Contract = InSlice value.layout (value.wakeOut all) }
-futexFn (valSet x) = record { call = futex.set x; asks = false; room = nobody; wrote = nobody; Contract = Silent value.layout (value.setOut x) }
+futexFn (wake all) = record { call = value.wakeCall all; asks = false; room = wakeRoom all; wrote = everyone; Contract = InSlice (value.Wakes all) }
+futexFn (valSet x) = record { call = futex.set x; asks = false; room = nobody; wrote = nobody; Contract = Silent (value.SetsVal x) }
 
 -- wait_blocking, of a condition variable and the mutex that it gives back, whose entries it does not write
 pub record WaitedWith (u : Use) (c c' : Memory) : Type 0 where
@@ -175,7 +169,7 @@ pub record WaitedWith (u : Use) (c c' : Memory) : Type 0 where
   pub lent : u .lent ≡ who ∷ []
   pub filled : u .filled ≡ who' ∷ []
   pub entries : u .after .entries ≡ u .before .entries
-  pub waited : Waited (u .id) (u .priority) (u .state) (c .header) (c .entries) (u .before .header) (u .before .entries) who (u .answer)
+  pub waited : condition.Waits (u .id) (u .priority) (u .state) (c .header) (c .entries) (u .before .header) (u .before .entries) who (u .answer)
       (c' .header) (c' .entries) (u .after .header) who'
 
 abbrev pub waitBlocking : Double mutex-kind condvar-kind

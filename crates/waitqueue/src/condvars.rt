@@ -1,14 +1,6 @@
 // Condition variables: the header's word, and the entries.
 use wait_queue::MAX_WAITERS;
-ghost use mathlib.Core.Path.{_≡_};
-ghost use mathlib.Core.List.{List};
-ghost use Prim.Native.Nat.{ℕ};
-ghost use lib.IntN.{pos};
-ghost use lib.ListN.{length};
-ghost use Rattle.wait_queue.specs.Post.{Told, Listed};
-ghost use Rattle.kind.specs.Object.{on, Does, Audited};
-ghost use Rattle.condvar.specs.Condvar.{condvar-kind};
-ghost use Rattle.condvar.specs.Post.{layout, signalOut, broadcastOut, getOut, hasWaiters, Starts, Waited, SignalDecided, BroadcastDecided, WaitDecided};
+ghost use Rattle.condvar.specs.Post.{Starts, Signals, Broadcasts, Waits, CountsWaiters, SaysHasWaiters, Audits, SignalDecided, BroadcastDecided, WaitDecided};
 
 #[no_mangle]
 pub extern "C" fn wq_condvar_signal_decide(has_waiter: bool) -> i32
@@ -44,8 +36,7 @@ pub extern "C" fn wq_condvar_signal(
     entry: &[u64; MAX_WAITERS],
     who: &mut u64,
 ) -> i32
-    ensures { λ r. ⌜ Does layout signalOut (now (head .entry)) (now (entry .entry)) r (now (head .exit)) (now (entry .entry)) ⌝ }
-    ensures { λ r. ⌜ Told (on layout signalOut (now (head .entry)) (now (entry .entry)) .turn .woken) (now (who .entry)) (now (who .exit)) ⌝ }
+    ensures { λ r. ⌜ Signals (now (head .entry)) (now (entry .entry)) (now (who .entry)) r (now (head .exit)) (now (who .exit)) ⌝ }
 {
     condvar::signal(head, entry, who)
 }
@@ -56,8 +47,7 @@ pub extern "C" fn wq_condvar_broadcast(
     entry: &[u64; MAX_WAITERS],
     out: &mut [u64],
 ) -> i32
-    ensures { λ r. ⌜ Does layout (broadcastOut (length (now (out .entry)))) (now (head .entry)) (now (entry .entry)) r (now (head .exit)) (now (entry .entry)) ⌝ }
-    ensures { λ r. ⌜ Listed (on layout (broadcastOut (length (now (out .entry)))) (now (head .entry)) (now (entry .entry)) .turn .woken) (now (out .entry)) (now (out .exit)) ⌝ }
+    ensures { λ r. ⌜ Broadcasts (now (head .entry)) (now (entry .entry)) (now (out .entry)) r (now (head .exit)) (now (out .exit)) ⌝ }
 {
     condvar::broadcast(head, entry, out)
 }
@@ -73,7 +63,7 @@ pub extern "C" fn wq_condvar_wait_blocking(
     state: u32,
     who: &mut u64,
 ) -> i32
-    ensures { λ r. ⌜ Waited id priority state (now (head .entry)) (now (entry .entry)) (now («mutex_head» .entry)) (now («mutex_entry» .entry)) (now (who .entry)) r (now (head .exit)) (now (entry .exit)) (now («mutex_head» .exit)) (now (who .exit)) ⌝ }
+    ensures { λ r. ⌜ Waits id priority state (now (head .entry)) (now (entry .entry)) (now («mutex_head» .entry)) (now («mutex_entry» .entry)) (now (who .entry)) r (now (head .exit)) (now (entry .exit)) (now («mutex_head» .exit)) (now (who .exit)) ⌝ }
 {
     condvar::wait_blocking(
         head,
@@ -89,21 +79,21 @@ pub extern "C" fn wq_condvar_wait_blocking(
 
 #[no_mangle]
 pub extern "C" fn wq_condvar_num_waiters(head: &[u32; 1], entry: &[u64; MAX_WAITERS]) -> i64
-    ensures { λ r. ⌜ r ≡ on layout (getOut (λ (q : List ℕ). pos (length q))) (now (head .entry)) (now (entry .entry)) .turn .code ⌝ }
+    ensures { λ r. ⌜ CountsWaiters (now (head .entry)) (now (entry .entry)) r ⌝ }
 {
     condvar::num_waiters(head, entry)
 }
 
 #[no_mangle]
 pub extern "C" fn wq_condvar_has_waiters(head: &[u32; 1], entry: &[u64; MAX_WAITERS]) -> i32
-    ensures { λ r. ⌜ r ≡ on layout (getOut hasWaiters) (now (head .entry)) (now (entry .entry)) .turn .code ⌝ }
+    ensures { λ r. ⌜ SaysHasWaiters (now (head .entry)) (now (entry .entry)) r ⌝ }
 {
     condvar::has_waiters(head, entry)
 }
 
 #[no_mangle]
 pub extern "C" fn wq_condvar_audit(head: &[u32; 1], entry: &[u64; MAX_WAITERS]) -> bool
-    ensures { λ r. ⌜ Audited condvar-kind layout (now (head .entry)) (now (entry .entry)) r ⌝ }
+    ensures { λ r. ⌜ Audits (now (head .entry)) (now (entry .entry)) r ⌝ }
 {
     condvar::audit(head, entry)
 }

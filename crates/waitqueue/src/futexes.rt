@@ -1,13 +1,6 @@
 // Futexes: the header's two words, and the entries.
 use wait_queue::MAX_WAITERS;
-ghost use mathlib.Core.Path.{_≡_};
-ghost use mathlib.Core.List.{List};
-ghost use Prim.Native.Nat.{ℕ};
-ghost use lib.ListN.{length};
-ghost use Rattle.wait_queue.specs.Post.{Listed};
-ghost use Rattle.kind.specs.Object.{on, Does, Audited};
-ghost use Rattle.futex.specs.Futex.{Futex, futex-kind};
-ghost use Rattle.futex.specs.Post.{layout, waitOut, wakeOut, setOut, getOut, Starts, WaitDecided, WakeDecided};
+ghost use Rattle.futex.specs.Post.{Starts, Waits, Wakes, SetsVal, GetsVal, CountsWaiters, Audits, WaitDecided, WakeDecided};
 
 #[no_mangle]
 pub extern "C" fn wq_futex_wait_decide(val: u32, expected: u32) -> i32
@@ -39,7 +32,7 @@ pub extern "C" fn wq_futex_wait(
     priority: u32,
     state: u32,
 ) -> i32
-    ensures { λ r. ⌜ Does layout (waitOut expected id priority state) (now (head .entry)) (now (entry .entry)) r (now (head .exit)) (now (entry .exit)) ⌝ }
+    ensures { λ r. ⌜ Waits expected id priority state (now (head .entry)) (now (entry .entry)) r (now (head .exit)) (now (entry .exit)) ⌝ }
 {
     futex::wait(head, entry, expected, id, priority, state)
 }
@@ -51,36 +44,35 @@ pub extern "C" fn wq_futex_wake(
     wake_all: bool,
     out: &mut [u64],
 ) -> i32
-    ensures { λ r. ⌜ Does layout (wakeOut «wake_all» (length (now (out .entry)))) (now (head .entry)) (now (entry .entry)) r (now (head .exit)) (now (entry .entry)) ⌝ }
-    ensures { λ r. ⌜ Listed (on layout (wakeOut «wake_all» (length (now (out .entry)))) (now (head .entry)) (now (entry .entry)) .turn .woken) (now (out .entry)) (now (out .exit)) ⌝ }
+    ensures { λ r. ⌜ Wakes «wake_all» (now (head .entry)) (now (entry .entry)) (now (out .entry)) r (now (head .exit)) (now (out .exit)) ⌝ }
 {
     futex::wake(head, entry, wake_all, out)
 }
 
 #[no_mangle]
 pub extern "C" fn wq_futex_val_set(head: &mut [u32; 2], entry: &[u64; MAX_WAITERS], val: u32) -> i32
-    ensures { λ r. ⌜ Does layout (setOut val) (now (head .entry)) (now (entry .entry)) r (now (head .exit)) (now (entry .entry)) ⌝ }
+    ensures { λ r. ⌜ SetsVal val (now (head .entry)) (now (entry .entry)) r (now (head .exit)) ⌝ }
 {
     futex::val_set(head, entry, val)
 }
 
 #[no_mangle]
 pub extern "C" fn wq_futex_val_get(head: &[u32; 2], entry: &[u64; MAX_WAITERS]) -> i64
-    ensures { λ r. ⌜ r ≡ on layout (getOut (λ (s : Futex) (q : List ℕ). s .val)) (now (head .entry)) (now (entry .entry)) .turn .code ⌝ }
+    ensures { λ r. ⌜ GetsVal (now (head .entry)) (now (entry .entry)) r ⌝ }
 {
     futex::val_get(head, entry)
 }
 
 #[no_mangle]
 pub extern "C" fn wq_futex_num_waiters(head: &[u32; 2], entry: &[u64; MAX_WAITERS]) -> i64
-    ensures { λ r. ⌜ r ≡ on layout (getOut (λ (s : Futex) (q : List ℕ). length q)) (now (head .entry)) (now (entry .entry)) .turn .code ⌝ }
+    ensures { λ r. ⌜ CountsWaiters (now (head .entry)) (now (entry .entry)) r ⌝ }
 {
     futex::num_waiters(head, entry)
 }
 
 #[no_mangle]
 pub extern "C" fn wq_futex_audit(head: &[u32; 2], entry: &[u64; MAX_WAITERS]) -> bool
-    ensures { λ r. ⌜ Audited futex-kind layout (now (head .entry)) (now (entry .entry)) r ⌝ }
+    ensures { λ r. ⌜ Audits (now (head .entry)) (now (entry .entry)) r ⌝ }
 {
     futex::audit(head, entry)
 }

@@ -30,7 +30,7 @@ same-length-3 : tie.Need-same-length-3
 same-length-3 c = search needs
 
 returns-2 : tie.Need-returns-2
-returns-2 c = let a = c .before .before .before .before .before .before .before .before .before .before .before .args in let u = c .before .before .unpend-all in rw (answered {z = u .result} (u .ok)) (broadcast-all (a .h .now) (a .e .now) (sym (c .before .before .before .before .before .before .formed .ensures) ∙ not-false _ (c .before .before .before .before .before .if1 .left)) (a .out .now) (u .result) (u .last .0) (u .last .1 .1 .1 .0) (u .ensures .0) (u .ensures .1))
+returns-2 c = let a = c .before .before .before .before .before .before .before .before .before .before .before .args in let u = c .before .before .unpend-all in rw (answered {z = u .result} (u .ok)) (broadcast-all (a .h .now) (a .e .now) (sym (c .before .before .before .before .before .before .formed .ensures) ∙ not-false _ (c .before .before .before .before .before .if1 .left)) (a .out .now) (u .result) (u .last .0) (u .last .1 .1 .1 .0) (u .ensures))
 
 pub broadcast-spec : {M : Type 1} → statement M
 broadcast-spec =

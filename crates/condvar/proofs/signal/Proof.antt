@@ -35,7 +35,7 @@ same-length-3 : tie.Need-same-length-3
 same-length-3 c = search needs
 
 returns-3 : tie.Need-returns-3
-returns-3 c = let a = c .before .before .before .before .before .before .before .before .before .before .args in let u = c .unpend-first in signal-first (a .h .now) (a .e .now) (sym (c .before .before .before .before .before .before .formed .ensures) ∙ not-false _ (c .before .before .before .before .before .if1 .left)) (a .who .now) (u .last .1 .1 .1 .0) (u .result) (u .last .0) (omega arith) (u .ensures .0) (u .ensures .1)
+returns-3 c = let a = c .before .before .before .before .before .before .before .before .before .before .args in let u = c .unpend-first in signal-first (a .h .now) (a .e .now) (sym (c .before .before .before .before .before .before .formed .ensures) ∙ not-false _ (c .before .before .before .before .before .if1 .left)) (a .who .now) (u .last .1 .1 .1 .0) (u .result) (u .last .0) (omega arith) (u .ensures)
 
 pub signal-spec : {M : Type 1} → statement M
 signal-spec =

@@ -30,7 +30,7 @@ same-length-3 : tie.Need-same-length-3
 same-length-3 c = search needs
 
 returns-2 : tie.Need-returns-2
-returns-2 c = let a = c .before .before .before .before .before .before .before .before .before .before .before .before .args in let u = c .before .before .unpend-all in rw (answered {z = u .result} (u .ok), c .before .before .before .before .before .if2 .taken) (wake-everybody (a .h .now) (a .e .now) (sym (c .before .before .before .before .before .before .before .formed .ensures) ∙ not-false _ (c .before .before .before .before .before .before .if1 .left)) (a .out .now) (u .result) (u .last .0) (u .last .1 .1 .1 .0) (u .ensures .0) (u .ensures .1))
+returns-2 c = let a = c .before .before .before .before .before .before .before .before .before .before .before .before .args in let u = c .before .before .unpend-all in rw (answered {z = u .result} (u .ok), c .before .before .before .before .before .if2 .taken) (wake-everybody (a .h .now) (a .e .now) (sym (c .before .before .before .before .before .before .before .formed .ensures) ∙ not-false _ (c .before .before .before .before .before .before .if1 .left)) (a .out .now) (u .result) (u .last .0) (u .last .1 .1 .1 .0) (u .ensures))
 
 slice-read-if3 : tie.Need-slice-read-if3
 slice-read-if3 c = let a = c .before .before .before .before .before .before .before .before .args in omega (arith, words (a .h .now) (a .e .now) (sym (c .before .before .before .formed .ensures) ∙ not-false _ (c .before .before .if1 .left)))
@@ -63,7 +63,7 @@ same-length-7 : tie.Need-same-length-7
 same-length-7 c = search needs
 
 returns-5 : tie.Need-returns-5
-returns-5 c = let a = c .before .before .before .before .before .before .before .before .before .before .before .before .before .args in let u = c .unpend-first in rw (c .before .before .before .before .before .before .if2 .left) (wake-first (a .h .now) (a .e .now) (sym (c .before .before .before .before .before .before .before .before .formed .ensures) ∙ not-false _ (c .before .before .before .before .before .before .before .if1 .left)) (a .out .now) (u .result) (u .last .0) (u .last .1 .1 .1 .0) (omega arith) (omega arith) (u .ensures .0) (u .ensures .1))
+returns-5 c = let a = c .before .before .before .before .before .before .before .before .before .before .before .before .before .args in let u = c .unpend-first in rw (c .before .before .before .before .before .before .if2 .left) (wake-first (a .h .now) (a .e .now) (sym (c .before .before .before .before .before .before .before .before .formed .ensures) ∙ not-false _ (c .before .before .before .before .before .before .before .if1 .left)) (a .out .now) (u .result) (u .last .0) (u .last .1 .1 .1 .0) (omega arith) (omega arith) (u .ensures))
 
 pub wake-spec : {M : Type 1} → statement M
 wake-spec =
