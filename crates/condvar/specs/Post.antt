@@ -58,9 +58,11 @@ Allowed (negsuc n) P = Unit {0}
 abbrev pub Starts : List ℕ → ℤ → List ℕ → Type 0
 Starts h r h' = Started condvar-kind layout tt h r h'
 
+-- the first that waits is woken, and told in a word
 abbrev pub Signals : List ℕ → List ℕ → ℕ → ℤ → List ℕ → ℕ → Type 0
 Signals h e w r h' w' = Tells layout signalOut h e w r h' w'
 
+-- all that wait are woken, and listed
 abbrev pub Broadcasts : List ℕ → List ℕ → List ℕ → ℤ → List ℕ → List ℕ → Type 0
 Broadcasts h e out r h' out' = Lists layout (broadcastOut (length out)) h e out r h' out'
 
@@ -70,6 +72,7 @@ CountsWaiters h e r = r ≡ on layout (getOut (λ q. pos (length q))) h e .turn 
 abbrev pub SaysHasWaiters : List ℕ → List ℕ → ℤ → Type 0
 SaysHasWaiters h e r = r ≡ on layout (getOut hasWaiters) h e .turn .code
 
+-- whether the whole condition variable is as it should be
 abbrev pub Audits : List ℕ → List ℕ → Bool → Type 0
 Audits h e r = Audited condvar-kind layout h e r
 

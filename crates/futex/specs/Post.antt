@@ -42,13 +42,15 @@ getOut f = looks futex-kind (λ s q. pos (f s q))
 abbrev pub Starts : ℕ → List ℕ → ℤ → List ℕ → Type 0
 Starts val h r h' = Started futex-kind layout (record { val = val }) h r h'
 
+-- the thread i of priority p, in the state st, waits, if the value is the expected one
 abbrev pub Waits : ℕ → ℕ → ℕ → ℕ → List ℕ → List ℕ → ℤ → List ℕ → List ℕ → Type 0
 Waits expected i p st h e r h' e' = Does layout (waitOut expected i p st) h e r h' e'
 
--- all, or one
+-- all that wait are woken, or the first, and listed
 abbrev pub Wakes : Bool → List ℕ → List ℕ → List ℕ → ℤ → List ℕ → List ℕ → Type 0
 Wakes all h e out r h' out' = Lists layout (wakeOut all (length out)) h e out r h' out'
 
+-- another value; nobody is woken
 abbrev pub SetsVal : ℕ → List ℕ → List ℕ → ℤ → List ℕ → Type 0
 SetsVal val h e r h' = Does layout (setOut val) h e r h' e
 
@@ -58,6 +60,7 @@ GetsVal h e r = r ≡ on layout (getOut (λ s q. s .val)) h e .turn .code
 abbrev pub CountsWaiters : List ℕ → List ℕ → ℤ → Type 0
 CountsWaiters h e r = r ≡ on layout (getOut (λ s q. length q)) h e .turn .code
 
+-- whether the whole futex is as it should be
 abbrev pub Audits : List ℕ → List ℕ → Bool → Type 0
 Audits h e r = Audited futex-kind layout h e r
 

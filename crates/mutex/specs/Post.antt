@@ -75,15 +75,19 @@ apart (thread i) q = cond (holds i q) false true
 abbrev pub Starts : List ℕ → ℤ → List ℕ → Type 0
 Starts h r h' = Started mutex-kind layout free h r h' × Written h h'
 
+-- the thread i owns it, once more or for the first time, if it can
 abbrev pub TriesLock : ℕ → List ℕ → List ℕ → ℤ → List ℕ → Type 0
 TriesLock i h e r h' = Does layout (tryLockOut i) h e r h' e × Written h h'
 
+-- the thread i of priority p, in the state st, owns it, or waits
 abbrev pub Locks : ℕ → ℕ → ℕ → List ℕ → List ℕ → ℤ → List ℕ → List ℕ → Type 0
 Locks i p st h e r h' e' = Does layout (lockOut i p st) h e r h' e' × Written h h'
 
+-- the first that waits owns it, is woken, and told in a word; or it is free
 abbrev pub Passes : List ℕ → List ℕ → ℕ → ℤ → List ℕ → ℕ → Type 0
 Passes h e w r h' w' = Tells layout passOut h e w r h' w' × Written h h'
 
+-- the thread i gives one lock back; the last is passed on
 abbrev pub Unlocks : ℕ → List ℕ → List ℕ → ℕ → ℤ → List ℕ → ℕ → Type 0
 Unlocks i h e w r h' w' = Tells layout (unlockOut i) h e w r h' w' × Written h h'
 

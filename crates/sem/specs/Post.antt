@@ -39,15 +39,19 @@ getOut f = looks sem-kind (λ s q. pos (f s q))
 abbrev pub Starts : ℕ → ℕ → List ℕ → ℤ → List ℕ → Type 0
 Starts count limit h r h' = Started sem-kind layout (record { count = count; limit = limit }) h r h'
 
+-- the first that waits is woken, and told in a word; or the count goes up; or it is at the limit
 abbrev pub Gives : List ℕ → List ℕ → ℕ → ℤ → List ℕ → ℕ → Type 0
 Gives h e w r h' w' = Tells layout giveOut h e w r h' w'
 
+-- one is taken, if there is one
 abbrev pub TriesTake : List ℕ → List ℕ → ℤ → List ℕ → Type 0
 TriesTake h e r h' = Does layout tryTakeOut h e r h' e
 
+-- one is taken, or the thread i of priority p, in the state st, waits
 abbrev pub Takes : ℕ → ℕ → ℕ → List ℕ → List ℕ → ℤ → List ℕ → List ℕ → Type 0
 Takes i p st h e r h' e' = Does layout (takeOut i p st) h e r h' e'
 
+-- the count is 0, and all that waited are woken, and listed
 abbrev pub Resets : List ℕ → List ℕ → List ℕ → ℤ → List ℕ → List ℕ → Type 0
 Resets h e out r h' out' = Lists layout (resetOut (length out)) h e out r h' out'
 
@@ -60,6 +64,7 @@ GetsLimit h e r = r ≡ on layout (getOut (λ s q. s .limit)) h e .turn .code
 abbrev pub CountsWaiters : List ℕ → List ℕ → ℤ → Type 0
 CountsWaiters h e r = r ≡ on layout (getOut (λ s q. length q)) h e .turn .code
 
+-- whether the whole semaphore is as it should be
 abbrev pub Audits : List ℕ → List ℕ → Bool → Type 0
 Audits h e r = Audited sem-kind layout h e r
 

@@ -33,7 +33,7 @@ module _ (p s s′ : ℕ) (x r x′ : ℤ) where
       (λ e f. ap (λ n. thr i p n z) e)
       (λ e f. ap (λ n. thr i p n z) e)
 
-  pub each-wakes : (result y : ℤ) → Stored (wokenWith result (thr 0 p s y)) s x r s′ x′ → Wakes result p s x r s′ x′
+  pub each-wakes : (result y : ℤ) → Stored (wokenWith result (thr 0 p s y)) s x r s′ x′ → Wakes p result s x r s′ x′
   each-wakes result y h i =
       each (valid p) (eqb s blocked) (thr 0 p ready result) (thr i p ready result) (thr i p s x) (thr i p s′ x′) s s′ x r x′ h
       (λ e f. cc)

@@ -4,10 +4,10 @@
 use Prim.Native.Nat.{ℕ}
 use lib.IntN.{ℤ}
 use Rattle.seq.specs.Only.{Only}
-use Rattle.thread.specs.Thread.{dispatched, blockedNow}
-use Rattle.waitqueue.specs.Threads.{Moves, Wakes}
+use Rattle.waitqueue.specs.Threads.{MakesPriority, Dispatches, Blocks, Wakes}
 
 pub record Determined : Type 0 where
-  pub wq-thread-dispatch : (p s : ℕ) → Only (λ ((r, s') : ℤ × ℕ). Moves dispatched p s r s')
-  pub wq-thread-block : (p s : ℕ) → Only (λ ((r, s') : ℤ × ℕ). Moves blockedNow p s r s')
-  pub wq-thread-wake : (z : ℤ) (p s : ℕ) (x : ℤ) → Only (λ ((r, s', x') : ℤ × ℕ × ℤ). Wakes z p s x r s' x')
+  pub wq-priority-new : (value : ℕ) → Only (λ (r : ℤ). MakesPriority value r)
+  pub wq-thread-dispatch : (p s : ℕ) → Only (λ ((r, s') : ℤ × ℕ). Dispatches p s r s')
+  pub wq-thread-block : (p s : ℕ) → Only (λ ((r, s') : ℤ × ℕ). Blocks p s r s')
+  pub wq-thread-wake : (p : ℕ) (z : ℤ) (s : ℕ) (x : ℤ) → Only (λ ((r, s', x') : ℤ × ℕ × ℤ). Wakes p z s x r s' x')

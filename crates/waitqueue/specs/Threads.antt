@@ -3,7 +3,8 @@ use mathlib.Core.Path.{_≡_}
 use Prim.Native.Nat.{ℕ}
 use lib.IntN.{ℤ, pos}
 use Rattle.thread.specs.Code.{ok}
-use Rattle.thread.specs.Thread.{wokenWith}
+use Rattle.thread.specs.Priority.{newPriority}
+use Rattle.thread.specs.Thread.{dispatched, blockedNow, wokenWith}
 use Rattle.thread.specs.declared.NewPriority.{NewPriority}
 use Rattle.thread.specs.declared.NewPriority.the-variants.{Made}
 use Rattle.thread.specs.declared.NewPriority.the-variants as priority
@@ -37,9 +38,20 @@ thr i p s x = record { id = i; priority = p; state = s; «return_value» = x }
 abbrev pub Moves : (Thread → Changed) → ℕ → ℕ → ℤ → ℕ → Type 0
 Moves f p s r s′ = (i : ℕ) (x : ℤ) → Did f (thr i p s x) r (thr i p s′ x)
 
--- and whose result goes from x to x′
-abbrev pub Wakes : ℤ → ℕ → ℕ → ℤ → ℤ → ℕ → ℤ → Type 0
-Wakes result p s x r s′ x′ = (i : ℕ) → Did (wokenWith result) (thr i p s x) r (thr i p s′ x′)
+-- The contract of each exported function that has one of its own.
+
+abbrev pub MakesPriority : ℕ → ℤ → Type 0
+MakesPriority value r = r ≡ valueOf (newPriority value)
+
+abbrev pub Dispatches : ℕ → ℕ → ℤ → ℕ → Type 0
+Dispatches p s r s′ = Moves dispatched p s r s′
+
+abbrev pub Blocks : ℕ → ℕ → ℤ → ℕ → Type 0
+Blocks p s r s′ = Moves blockedNow p s r s′
+
+-- of a thread of any id, whose priority is p, whose state goes from s to s′ and whose result goes from x to x′
+abbrev pub Wakes : ℕ → ℤ → ℕ → ℤ → ℤ → ℕ → ℤ → Type 0
+Wakes p result s x r s′ x′ = (i : ℕ) → Did (wokenWith result) (thr i p s x) r (thr i p s′ x′)
 
 -- the answer is told as r; state and result become those of its thread, or stay
 abbrev pub Stored : Changed → ℕ → ℤ → ℤ → ℕ → ℤ → Type 0

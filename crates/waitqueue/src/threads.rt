@@ -3,14 +3,12 @@ use thread::Changed;
 use thread::NewPriority;
 use thread::Priority;
 use thread::Thread;
-ghost use mathlib.Core.Path.{_≡_};
-ghost use Rattle.thread.specs.Priority.{newPriority, priorityGet, higherThan, higherOrEqual};
-ghost use Rattle.thread.specs.Thread.{dispatched, blockedNow, isBlocked};
-ghost use Rattle.waitqueue.specs.Threads.{valueOf, Moves, Wakes, Stored};
+ghost use Rattle.thread.specs.Post.{GetsPriority, SaysHigherThan, SaysHigherOrEqual, SaysBlocked};
+ghost use Rattle.waitqueue.specs.Threads.{MakesPriority, Dispatches, Blocks, Wakes, Stored};
 
 #[no_mangle]
 pub extern "C" fn wq_priority_new(value: u32) -> i32
-    ensures { λ r. ⌜ r ≡ valueOf (newPriority value) ⌝ }
+    ensures { λ r. ⌜ MakesPriority value r ⌝ }
 {
     match Priority::new(value) {
         NewPriority::Made(p) => p.get(),
@@ -20,28 +18,28 @@ pub extern "C" fn wq_priority_new(value: u32) -> i32
 
 #[no_mangle]
 pub extern "C" fn wq_priority_get(priority: u32) -> i32
-    ensures { λ r. ⌜ r ≡ priorityGet priority ⌝ }
+    ensures { λ r. ⌜ GetsPriority priority r ⌝ }
 {
     Priority { value: priority }.get()
 }
 
 #[no_mangle]
 pub extern "C" fn wq_priority_is_higher_than(a: u32, b: u32) -> i32
-    ensures { λ r. ⌜ r ≡ higherThan a b ⌝ }
+    ensures { λ r. ⌜ SaysHigherThan a b r ⌝ }
 {
     Priority { value: a }.is_higher_than(Priority { value: b })
 }
 
 #[no_mangle]
 pub extern "C" fn wq_priority_is_higher_or_equal(a: u32, b: u32) -> i32
-    ensures { λ r. ⌜ r ≡ higherOrEqual a b ⌝ }
+    ensures { λ r. ⌜ SaysHigherOrEqual a b r ⌝ }
 {
     Priority { value: a }.is_higher_or_equal(Priority { value: b })
 }
 
 #[no_mangle]
 pub extern "C" fn wq_thread_dispatch(priority: u32, state: &mut u32) -> i32
-    ensures { λ r. ⌜ Moves dispatched priority (now (state .entry)) r (now (state .exit)) ⌝ }
+    ensures { λ r. ⌜ Dispatches priority (now (state .entry)) r (now (state .exit)) ⌝ }
 {
     let t = Thread {
         id: 0,
@@ -55,7 +53,7 @@ pub extern "C" fn wq_thread_dispatch(priority: u32, state: &mut u32) -> i32
 
 #[no_mangle]
 pub extern "C" fn wq_thread_block(priority: u32, state: &mut u32) -> i32
-    ensures { λ r. ⌜ Moves blockedNow priority (now (state .entry)) r (now (state .exit)) ⌝ }
+    ensures { λ r. ⌜ Blocks priority (now (state .entry)) r (now (state .exit)) ⌝ }
 {
     let t = Thread {
         id: 0,
@@ -74,7 +72,7 @@ pub extern "C" fn wq_thread_wake(
     return_value: &mut i32,
     result: i32,
 ) -> i32
-    ensures { λ r. ⌜ Wakes result priority (now (state .entry)) (now («return_value» .entry)) r (now (state .exit)) (now («return_value» .exit)) ⌝ }
+    ensures { λ r. ⌜ Wakes priority result (now (state .entry)) (now («return_value» .entry)) r (now (state .exit)) (now («return_value» .exit)) ⌝ }
 {
     let t = Thread {
         id: 0,
@@ -101,7 +99,7 @@ fn stored(a: Changed, state: &mut u32, return_value: &mut i32) -> i32
 
 #[no_mangle]
 pub extern "C" fn wq_thread_is_blocked(state: u32) -> bool
-    ensures { λ r. ⌜ r ≡ isBlocked state ⌝ }
+    ensures { λ r. ⌜ SaysBlocked state r ⌝ }
 {
     Thread {
         id: 0,
