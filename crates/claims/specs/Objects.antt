@@ -15,6 +15,7 @@ use Rattle.futex.specs.Futex as value
 use Rattle.store.specs.Store as store
 use Rattle.store.specs.History as steps
 use Rattle.ring_buf.specs.Bytes as bytes
+use Rattle.ring_buf.specs.Post as rings
 use Rattle.ring_buf.specs.History as ring_buf
 use Rattle.msgq.specs.Msgq as messages
 use Rattle.msgq.specs.Post as queues
@@ -48,9 +49,8 @@ pub record Objects : Type 1 where
   pub mutex : (xs : List (histories.Event lock.Call)) → mutex.Promise xs
   pub futex : (v : ℕ) (xs : List (histories.Event value.Call)) → futex.Promise v xs
   -- in memory, from an init on that is answered 0
-  pub ring-buffer : (c : ℕ) (h b h₀ b₀ : List ℕ) → store.Started bytes.bytes (bytes.may c b) (bytes.new c b) h b ok h₀ b₀
-      → (ss : List (steps.Step ring_buf.Call)) (h' b' : List ℕ)
-      → steps.Made bytes.bytes ring_buf.does ring_buf.gives h₀ b₀ ss h' b'
+  pub ring-buffer : (c : ℕ) (h b h₀ : List ℕ) → rings.Starts c h b ok h₀ → (ss : List (steps.Step ring_buf.Call)) (h' b' : List ℕ)
+      → steps.Made bytes.bytes ring_buf.does ring_buf.gives h₀ b ss h' b'
       → (bytes.bytes .formed h' b' ≡ true) × ring_buf.Promise c ss (bytes.bytes .object h' b')
   pub message-queue : (c z : ℕ) (h b h₀ b₀ : List ℕ) → store.Started queues.messages (queues.may z c b) (queues.new z c b) h b ok h₀ b₀
       → (ss : List (steps.Step msgq.Call))
