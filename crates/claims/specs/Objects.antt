@@ -56,9 +56,8 @@ pub record Objects : Type 1 where
       → (ss : List (steps.Step msgq.Call))
       (h' b' : List ℕ) → steps.Made queues.messages msgq.does msgq.gives h₀ b₀ ss h' b'
       → (queues.messages .formed h' b' ≡ true) × msgq.Promise c z ss (queues.messages .object h' b')
-  pub pipe : (n : ℕ) (h b h₀ b₀ : List ℕ) → store.Started pipes.layout (bytes.may n b) (pipes.new n b) h b ok h₀ b₀
-      → (ss : List (steps.Step pipe.Call)) (h' b' : List ℕ)
-      → steps.Made pipes.layout pipe.does pipe.gives h₀ b₀ ss h' b' → (pipes.layout .formed h' b' ≡ true) × pipe.Promise n ss (pipes.layout .object h' b')
+  pub pipe : (n : ℕ) (h b h₀ : List ℕ) → pipes.Starts n h b ok h₀ → (ss : List (steps.Step pipe.Call)) (h' b' : List ℕ)
+      → steps.Made pipes.layout pipe.does pipe.gives h₀ b ss h' b' → (pipes.layout .formed h' b' ≡ true) × pipe.Promise n ss (pipes.layout .object h' b')
   pub stack : (c : ℕ) (h w h₀ w₀ : List ℕ) → store.Started words.place (stacks.may c w) (stacks.fresh c w) h w ok h₀ w₀
       → (ts : List (steps.Step stack.Call)) (h' w' : List ℕ)
       → steps.Made words.place stack.does stack.gives h₀ w₀ ts h' w' → stack.Kept c ts h' w'
