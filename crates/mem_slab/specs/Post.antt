@@ -1,8 +1,9 @@
 -- The slab in memory: h = how many blocks, a block's size, how many are out, the block that is given next; l = the links. What each
 -- function does.
+use mathlib.Core.Path.{_≡_}
 use mathlib.Core.Bool.{Bool, true, false, cond, _&&_}
 use mathlib.Core.List.{List}
-use Prim.Native.Nat.{ℕ}
+use Prim.Native.Nat.{ℕ, _-_}
 use lib.Dec.{ltb, leb, eqb}
 use lib.IntN.{ℤ, pos}
 use lib.ListN.{length, getD, take}
@@ -47,6 +48,24 @@ isFull s = truth (eqb (s .used) (s .blocks))
 -- none is
 abbrev pub isEmpty : Slab → ℤ
 isEmpty s = truth (eqb (s .used) 0)
+
+abbrev pub CountsUsed : List ℕ → List ℕ → ℤ → Type 0
+CountsUsed h l r = r ≡ sees (λ (s : Slab). pos (s .used)) h l
+
+abbrev pub CountsFree : List ℕ → List ℕ → ℤ → Type 0
+CountsFree h l r = r ≡ sees (λ (s : Slab). pos (s .blocks - s .used)) h l
+
+abbrev pub CountsBlocks : List ℕ → List ℕ → ℤ → Type 0
+CountsBlocks h l r = r ≡ sees (λ (s : Slab). pos (s .blocks)) h l
+
+abbrev pub GetsBlockSize : List ℕ → List ℕ → ℤ → Type 0
+GetsBlockSize h l r = r ≡ sees (λ (s : Slab). pos (s .size)) h l
+
+abbrev pub SaysFull : List ℕ → List ℕ → ℤ → Type 0
+SaysFull h l r = r ≡ sees isFull h l
+
+abbrev pub SaysEmpty : List ℕ → List ℕ → ℤ → Type 0
+SaysEmpty h l r = r ≡ sees isEmpty h l
 
 -- a new slab, of some blocks of some size, each with a link
 abbrev pub Starts : ℕ → ℕ → List ℕ → List ℕ → ℤ → List ℕ → List ℕ → Type 0
