@@ -52,9 +52,8 @@ pub record Objects : Type 1 where
   pub ring-buffer : (c : ℕ) (h b h₀ : List ℕ) → rings.Starts c h b ok h₀ → (ss : List (steps.Step ring_buf.Call)) (h' b' : List ℕ)
       → steps.Made bytes.bytes ring_buf.does ring_buf.gives h₀ b ss h' b'
       → (bytes.bytes .formed h' b' ≡ true) × ring_buf.Promise c ss (bytes.bytes .object h' b')
-  pub message-queue : (c z : ℕ) (h b h₀ b₀ : List ℕ) → store.Started queues.messages (queues.may z c b) (queues.new z c b) h b ok h₀ b₀
-      → (ss : List (steps.Step msgq.Call))
-      (h' b' : List ℕ) → steps.Made queues.messages msgq.does msgq.gives h₀ b₀ ss h' b'
+  pub message-queue : (c z : ℕ) (h b h₀ : List ℕ) → queues.Starts z c h b ok h₀ → (ss : List (steps.Step msgq.Call)) (h' b' : List ℕ)
+      → steps.Made queues.messages msgq.does msgq.gives h₀ b ss h' b'
       → (queues.messages .formed h' b' ≡ true) × msgq.Promise c z ss (queues.messages .object h' b')
   pub pipe : (n : ℕ) (h b h₀ : List ℕ) → pipes.Starts n h b ok h₀ → (ss : List (steps.Step pipe.Call)) (h' b' : List ℕ)
       → steps.Made pipes.layout pipe.does pipe.gives h₀ b ss h' b' → (pipes.layout .formed h' b' ≡ true) × pipe.Promise n ss (pipes.layout .object h' b')
