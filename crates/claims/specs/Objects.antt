@@ -57,9 +57,8 @@ pub record Objects : Type 1 where
       → (queues.messages .formed h' b' ≡ true) × msgq.Promise c z ss (queues.messages .object h' b')
   pub pipe : (n : ℕ) (h b h₀ : List ℕ) → pipes.Starts n h b ok h₀ → (ss : List (steps.Step pipe.Call)) (h' b' : List ℕ)
       → steps.Made pipes.layout pipe.does pipe.gives h₀ b ss h' b' → (pipes.layout .formed h' b' ≡ true) × pipe.Promise n ss (pipes.layout .object h' b')
-  pub stack : (c : ℕ) (h w h₀ w₀ : List ℕ) → store.Started words.place (stacks.may c w) (stacks.fresh c w) h w ok h₀ w₀
-      → (ts : List (steps.Step stack.Call)) (h' w' : List ℕ)
-      → steps.Made words.place stack.does stack.gives h₀ w₀ ts h' w' → stack.Kept c ts h' w'
+  pub stack : (c : ℕ) (h w h₀ : List ℕ) → words.Starts c h w ok h₀ → (ts : List (steps.Step stack.Call)) (h' w' : List ℕ)
+      → steps.Made words.place stack.does stack.gives h₀ w ts h' w' → stack.Kept c ts h' w'
   pub memory-slab : (z n : ℕ) → mem_slab.Always z n
   -- whatever the links of a slab hold
   pub no-two : (h l : List ℕ) → blocks.NoTwo h l
