@@ -260,7 +260,8 @@ module _ (u s f n : ℕ) (w : Bool) {a c : ℕ} {r : ℤ} {a' c' : ℕ} where
 -- ---- lemmas
 
 -- lemma_invariant_inductive ends in `ensures true`: the invariant holds after any sequence of calls of a new pipe
-pub invariant-inductive : (n : ℕ) {h b h₀ : List ℕ} → Starts n h b ok h₀ → {ss : List (Step Call)} {h' b' : List ℕ} → Made layout does gives h₀ b ss h' b' → Inv (object h' b')
+pub invariant-inductive : (n : ℕ) {h b h₀ : List ℕ} → Starts n h b ok h₀ → {ss : List (Step Call)} {h' b' : List ℕ} → Made layout does gives h₀ b ss h' b'
+    → Inv (object h' b')
 invariant-inductive n s {h' = h'} {b' = b'} x = inv h' b' (from-init n s x .0)
 
 pub write-read-roundtrip : (u s n : ℕ) → 0 < s → 0 < n → u + n ≤ s → Roundtrip u s n
