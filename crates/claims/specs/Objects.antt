@@ -1,6 +1,6 @@
 -- What holds of each object alone, after any sequence of calls, as its own crate states it.
 use mathlib.Core.Path.{_≡_}
-use mathlib.Core.Bool.{Bool, true, false}
+use mathlib.Core.Bool.{true, false}
 use mathlib.Core.List.{List, []}
 use Prim.Native.Nat.{ℕ, _≤_, _<_}
 use Rattle.thread.specs.Code.{ok}
@@ -12,7 +12,6 @@ use Rattle.mutex.specs.History as mutex
 use Rattle.mutex.specs.Mutex as lock
 use Rattle.futex.specs.History as futex
 use Rattle.futex.specs.Futex as value
-use Rattle.store.specs.Store as store
 use Rattle.store.specs.History as steps
 use Rattle.ring_buf.specs.Bytes as bytes
 use Rattle.ring_buf.specs.Post as rings

@@ -26,11 +26,13 @@ fit h l = place .formed h l && leads (slab h l)
 abbrev pub led : {S : Type 0} → (Slab → Reply S) → Slab → Reply S
 led f s = cond (leads s) (f s) (refuse einval)
 
+-- the block that is given next is out
 abbrev pub Allocs : List ℕ → List ℕ → ℤ → List ℕ → List ℕ → Type 0
-Allocs = Did place (led alloc)
+Allocs h l r h' l' = Did place (led alloc) h l r h' l'
 
+-- the block b is not out any more; it is given next
 abbrev pub Frees : ℕ → List ℕ → List ℕ → ℤ → List ℕ → List ℕ → Type 0
-Frees b = Did place (led (free b))
+Frees b h l r h' l' = Did place (led (free b)) h l r h' l'
 
 -- a number of a slab
 abbrev pub sees : (Slab → ℤ) → List ℕ → List ℕ → ℤ
@@ -69,10 +71,11 @@ SaysEmpty h l r = r ≡ sees isEmpty h l
 
 -- a new slab, of some blocks of some size, each with a link
 abbrev pub Starts : ℕ → ℕ → List ℕ → List ℕ → ℤ → List ℕ → List ℕ → Type 0
-Starts size blocks h l = Started place (ltb 0 size && (ltb 0 blocks && leb blocks (length l))) (fresh size blocks) h l
+Starts size blocks h l r h' l' = Started place (ltb 0 size && (ltb 0 blocks && leb blocks (length l))) (fresh size blocks) h l r h' l'
 
+-- on plain numbers: how many are out then
 abbrev pub AllocDecided : ℕ → ℕ → Bool → ℕ → ℤ → ℕ → Type 0
-AllocDecided used blocks noWait = Decided (cond (ltb 0 blocks && leb used blocks) (allocs used blocks noWait) (refuse einval))
+AllocDecided used blocks noWait n r n' = Decided (cond (ltb 0 blocks && leb used blocks) (allocs used blocks noWait) (refuse einval)) n r n'
 
 abbrev pub FreeDecided : ℕ → Bool → ℕ → ℤ → ℕ → Type 0
-FreeDecided used waiter = Decided (frees used waiter)
+FreeDecided used waiter n r n' = Decided (frees used waiter) n r n'
