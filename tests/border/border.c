@@ -471,7 +471,7 @@ int main(int argc, char **argv)
                              : ": each difference from Gale's object has a row", functions[i].name, counts[i][s].unknown == 0);
     }
     for (int k = 0; k < CLASSES; k++)
-        test(": a class that was never met", classes[k].row, classes[k].met > 0);
+        test(": this class of it was met", classes[k].row, classes[k].met > 0);
     printf("%d passed, %d failed\n", passed, failed);
     return failed > 0;
 }
