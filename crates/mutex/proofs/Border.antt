@@ -14,7 +14,7 @@ use Rattle.wait_queue.specs.Post.{Refused}
 use Rattle.kind.proofs.Refusals.{served, because}
 use Rattle.mutex.specs.Mutex.{maxCount}
 use Rattle.mutex.specs.Post.{LockDecided, UnlockDecided}
-use Rattle.mutex.specs.Border.{Demands, LockRefuses, UnlockRefuses, Border}
+use Rattle.mutex.specs.Border.{Demands, LockReason, LockRefuses, UnlockRefuses, Border}
 use Rattle.mutex.proofs.Upstream.{lock-decide, lock-decide-refuses, unlock-decide, unlock-decide-refuses}
 
 -- what is not as upstream demands is one of two
@@ -33,10 +33,6 @@ past c false false w r d p q k = clash (sym q)
 past c false true true r d p q k = d 0 1 [] (λ z. absurd (omega arith)) refl ∙ rw (lt-ltb 0 c (omega arith), le-ltb c maxCount k)
 past c false true false r d p q k = d 0 1 [] (λ z. absurd (omega arith)) refl ∙ rw (lt-ltb 0 c (omega arith), le-ltb c maxCount k)
 
-abbrev Reason : ℕ → Bool → Bool → Bool → Type 0
-Reason c n u w =
-    ((n ≡ true) × (0 < c)) ⊎ ((n ≡ false) × (c ≡ 0)) ⊎ ((n ≡ false) × (u ≡ true) × (maxCount ≤ c)) ⊎ ((n ≡ false) × (u ≡ false) × (w ≡ true))
-
 locks : (c : ℕ) (n u w : Bool) (r : ℤ) → LockDecided c n u w r → LockRefuses c n u w r
 locks c n u w r d =
     record {
@@ -48,7 +44,7 @@ locks c n u w r d =
       outside = λ o. lock-decide-refuses c n u w r (malformed c n o) d;
     }
   where
-    by : (m v x : Bool) → LockDecided c m v x r → (y z : Bool) → ltb 0 c ≡ y → ltb c maxCount ≡ z → Refused r (Reason c m v x)
+    by : (m v x : Bool) → LockDecided c m v x r → (y z : Bool) → ltb 0 c ≡ y → ltb c maxCount ≡ z → Refused r (LockReason c m v x)
     by true v x e true z p q = because r (inl (refl, ltb-true 0 c p))
     by true v x e false z p q = served _ 0 r (lock-decide c true v x r (λ i. omega (arith, ltb-false 0 c p)) (λ i. clash i) e .acquires refl)
     by false v x e false z p q = because r (inr (inl (refl, omega (arith, ltb-false 0 c p))))

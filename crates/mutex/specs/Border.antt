@@ -15,6 +15,14 @@ pub record Demands (count : ℕ) (null : Bool) : Type 0 where
   pub free : null ≡ true → count ≡ 0
   pub owned : null ≡ false → 0 < count
 
+-- why a lock is refused: the first field to the fourth of LockRefuses
+abbrev pub LockReason : ℕ → Bool → Bool → Bool → Type 0
+LockReason count null current noWait =
+    ((null ≡ true) × (0 < count))
+    ⊎ ((null ≡ false) × (count ≡ 0))
+    ⊎ ((null ≡ false) × (current ≡ true) × (maxCount ≤ count))
+    ⊎ ((null ≡ false) × (current ≡ false) × (noWait ≡ true))
+
 pub record LockRefuses (count : ℕ) (null current noWait : Bool) (r : ℤ) : Type 0 where
   -- a malformed mutex is -22: a count without an owner, or an owner without a count
   pub ownerless : null ≡ true → 0 < count → r ≡ einval
@@ -24,11 +32,7 @@ pub record LockRefuses (count : ℕ) (null current noWait : Bool) (r : ℤ) : Ty
   -- another's, without waiting: it would block, -16
   pub busy : null ≡ false → 0 < count → current ≡ false → noWait ≡ true → r ≡ ebusy
   -- nothing else is refused
-  pub only : Refused r
-      (((null ≡ true) × (0 < count))
-      ⊎ ((null ≡ false) × (count ≡ 0))
-      ⊎ ((null ≡ false) × (current ≡ true) × (maxCount ≤ count))
-      ⊎ ((null ≡ false) × (current ≡ false) × (noWait ≡ true)))
+  pub only : Refused r (LockReason count null current noWait)
   -- upstream demands nothing of lock_decide. All that it demands away of a mutex is refused; of a lock it demands a count below 2^32 - 1, too
   pub outside : (Demands count null → ⊥) → r ≡ einval
 

@@ -1,7 +1,7 @@
 -- What the decide functions refuse follows from their contracts. Assumes nothing.
 use mathlib.Core.Path.{_≡_, refl, sym}
 use mathlib.Core.Bool.{Bool, true, false}
-use mathlib.Core.Logic.{_⊎_, inl, inr}
+use mathlib.Core.Logic.{inl, inr}
 use Prim.Native.Nat.{ℕ, _<_}
 use native.Mathlib.Omega.{arith}
 use lib.Dec.{ltb, leb}
@@ -13,7 +13,7 @@ use Rattle.wait_queue.specs.Post.{Refused}
 use Rattle.kind.proofs.Refusals.{served, because}
 use Rattle.sem.specs.Post.{GiveDecided, TakeDecided}
 use Rattle.sem.specs.Upstream.{GiveDecide}
-use Rattle.sem.specs.Border.{GiveDemands, GiveRefuses, TakeRefuses, Border}
+use Rattle.sem.specs.Border.{GiveDemands, GiveReason, GiveRefuses, TakeRefuses, Border}
 use Rattle.sem.proofs.Law.{no-limit, over, mixed}
 use Rattle.sem.proofs.Upstream.{give-decide, decide-refuses, take-decide}
 
@@ -42,8 +42,7 @@ gives c l w r d =
     away n true false p q = above (leb-false c l q)
     away n true true p q = absurd (n (record { limited = ltb-true 0 l p; under = leb-true c l q }))
 
-    by : (u : Bool) → GiveDecided c l u r → (x y z : Bool) → ltb 0 l ≡ x → leb c l ≡ y → ltb 0 c ≡ z
-        → Refused r ((l ≡ 0) ⊎ (l < c) ⊎ ((u ≡ true) × (0 < c)))
+    by : (u : Bool) → GiveDecided c l u r → (x y z : Bool) → ltb 0 l ≡ x → leb c l ≡ y → ltb 0 c ≡ z → Refused r (GiveReason c l u)
     by u e false y z p q s = because r (inl (omega (arith, ltb-false 0 l p)))
     by u e true false z p q s = because r (inr (inl (leb-false c l q)))
     by true e true true true p q s = because r (inr (inr (refl, ltb-true 0 c s)))
@@ -54,7 +53,7 @@ gives c l w r d =
         g : GiveDecide c l false r
         g = give-decide c l false r (ltb-true 0 l p) (leb-true c l q) (λ j. clash (sym j)) e
 
-        room : (b : Bool) → ltb c l ≡ b → Refused r ((l ≡ 0) ⊎ (l < c) ⊎ ((false ≡ true) × (0 < c)))
+        room : (b : Bool) → ltb c l ≡ b → Refused r (GiveReason c l false)
         room true i = served _ 1 r (g .increments refl (ltb-true c l i))
         room false i = served _ 2 r (g .saturates refl (ltb-false c l i))
 

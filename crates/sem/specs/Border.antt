@@ -14,6 +14,10 @@ pub record GiveDemands (count limit : ℕ) : Type 0 where
   pub limited : 0 < limit
   pub under : count ≤ limit
 
+-- why a give is refused: the first field to the third of GiveRefuses
+abbrev pub GiveReason : ℕ → ℕ → Bool → Type 0
+GiveReason count limit waiter = (limit ≡ 0) ⊎ (limit < count) ⊎ ((waiter ≡ true) × (0 < count))
+
 pub record GiveRefuses (count limit : ℕ) (waiter : Bool) (r : ℤ) : Type 0 where
   -- a malformed semaphore is -22: limit 0, or a count above the limit
   pub unlimited : limit ≡ 0 → r ≡ einval
@@ -21,7 +25,7 @@ pub record GiveRefuses (count limit : ℕ) (waiter : Bool) (r : ℤ) : Type 0 wh
   -- or somebody waits while the count is above 0
   pub idle : waiter ≡ true → 0 < count → r ≡ einval
   -- nothing else is refused
-  pub only : Refused r ((limit ≡ 0) ⊎ (limit < count) ⊎ ((waiter ≡ true) × (0 < count)))
+  pub only : Refused r (GiveReason count limit waiter)
   -- all that upstream demands away is refused
   pub outside : (GiveDemands count limit → ⊥) → r ≡ einval
 
