@@ -121,11 +121,14 @@ pub fn add(h: &mut [u64], duration: u64, deadline: &mut u64) -> i32
     ensures { λ r. ⌜ Did place (add «duration») (now (h .entry)) [] r (now (h .exit)) [] ⌝ }
     ensures { λ r. ⌜ now («deadline» .exit) ≡ settled (λ (t : Timeout). t .deadline) (reply place (add «duration») (now (h .entry)) []) (now («deadline» .entry)) ⌝ }
 {
-    if !formed(h) {
+    if h.len() < 3 {
         return EINVAL;
     }
     if h[1] > 0 {
-        return EBUSY;
+        if formed(h) {
+            return EBUSY;
+        }
+        return EINVAL;
     }
     let clock = h[2];
     if K_FOREVER_TICKS - clock <= duration {
@@ -192,11 +195,16 @@ pub fn add_no_wait(h: &mut [u64]) -> i32
 pub fn abort(h: &mut [u64]) -> i32
     ensures { λ r. ⌜ Did place abort (now (h .entry)) [] r (now (h .exit)) [] ⌝ }
 {
-    if !formed(h) {
+    if h.len() < 3 {
         return EINVAL;
     }
     if h[1] == 0 {
         return EINVAL;
+    }
+    if h[0] <= h[2] {
+        if !formed(h) {
+            return EINVAL;
+        }
     }
     h[1] = 0;
     OK
@@ -206,7 +214,7 @@ pub fn abort(h: &mut [u64]) -> i32
 pub fn announce(h: &mut [u64], ticks: u64) -> i32
     ensures { λ r. ⌜ Did place (announce «ticks») (now (h .entry)) [] r (now (h .exit)) [] ⌝ }
 {
-    if !formed(h) {
+    if h.len() < 3 {
         return EINVAL;
     }
     let clock = h[2];
@@ -214,15 +222,20 @@ pub fn announce(h: &mut [u64], ticks: u64) -> i32
         return EINVAL;
     }
     let n = clock + ticks;
-    let due = h[0];
-    let active = h[1];
+    if h[1] == 0 {
+        h[2] = n;
+        return OK;
+    }
+    if n < h[0] {
+        h[2] = n;
+        return OK;
+    }
+    if h[0] < clock {
+        if !formed(h) {
+            return EINVAL;
+        }
+    }
     h[2] = n;
-    if active == 0 {
-        return OK;
-    }
-    if n < due {
-        return OK;
-    }
     h[1] = 0;
     FIRED
 }
