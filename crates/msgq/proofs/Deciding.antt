@@ -3,7 +3,6 @@ use mathlib.Core.Path.{_≡_, refl, sym, ap, _∙_}
 use mathlib.Core.Bool.{Bool, true, false}
 use Prim.Native.Nat.{ℕ, _+_, _-_, _≤_, _<_}
 use native.Mathlib.Omega.{arith}
-use borrow.Author.Tests.{eq-eqb}
 use lib.IntN.{ℤ}
 use Rattle.store.specs.Store.{Reply, accept, refuse, answer, settled}
 use Rattle.store.proofs.Laws.{decided, declined}
@@ -13,13 +12,9 @@ use Rattle.ring_buf.proofs.Rings.{wrap-low, wrap-high, wrap-below}
 use Rattle.msgq.specs.Msgq.{Numbers, counts}
 use Rattle.msgq.specs.Post.{PutDecided, GetDecided, PutFrontDecided, PeekAtDecided, sane, Settled}
 use Rattle.msgq.specs.Upstream.{nextIdx, prevIdx, PutDecide, GetDecide, PutFrontDecide, PeekAtDecide}
-use Rattle.msgq.proofs.Headers.{is-within}
+use Rattle.msgq.proofs.Headers.{by-both, is-within, is-sane}
 use Rattle.msgq.proofs.Decisions.{put-refuses, put-pends, put-wakes, put-stores, get-refuses, get-pends, get-wakes, get-reads, lead-refuses, lead-stores, peek-past, peek-finds}
 use Rattle.msgq.proofs.Implied.{next-is, prev-is}
-
-by-both : {P : Type 0} (w : Bool) → (w ≡ true → P) → (w ≡ false → P) → P
-by-both true f g = f refl
-by-both false f g = g refl
 
 -- a decision that is told
 module _ {y : Reply Numbers} {i u : ℕ} {r : ℤ} {i' u' : ℕ} (d : Settled y i u r i' u') where
@@ -37,9 +32,7 @@ module _ {y : Reply Numbers} {i u : ℕ} {r : ℤ} {i' u' : ℕ} (d : Settled y 
 
 module _ (t n c : ℕ) (w : Bool) (f : t < c) (g : n ≤ c) where
   idle : (m : ℕ) → (w ≡ true → n ≡ m) → sane t n c w m ≡ true
-  idle m h =
-      let s = is-within c t n (record { idx = f; used = g }) in
-      by-both w (λ e. rw (s, e, eq-eqb n m (h e))) (λ e. rw (s, e))
+  idle m h = is-sane t n c w m (record { idx = f; used = g }) h
 
   module _ (k : Bool) (i u : ℕ) (r : ℤ) (i' u' : ℕ) where
     -- nobody waits unless the queue is empty

@@ -10,7 +10,7 @@ ghost use lib.ListN.{length, take, drop};
 ghost use lib.Seq.{paste};
 ghost use Rattle.ring_buf.specs.Ring.{wrap};
 ghost use Rattle.ring_buf.specs.Bytes.{numbers as within};
-ghost use Rattle.msgq.specs.Post.{PutDecided, GetDecided, PutFrontDecided, PeekAtDecided, Starts, Puts, PutsFront, Gets, PeeksAt, Purges, CountsFree, CountsUsed, GetsMsgSize, GetsMaxMsgs, SaysFull, SaysEmpty, GetsReadIdx, GetsWriteIdx, room, sound, takes, sane as fitting};
+ghost use Rattle.msgq.specs.Post.{PutDecided, GetDecided, PutFrontDecided, PeekAtDecided, Starts, Puts, PutsFront, Gets, PeeksAt, Purges, CountsFree, CountsUsed, GetsMsgSize, GetsMaxMsgs, SaysFull, SaysEmpty, GetsReadIdx, GetsWriteIdx, room, sound, takes};
 
 // What a put is to do: Gale's PutDecision.
 pub const STORE: i32 = 0;
@@ -32,6 +32,14 @@ fn around(t: u32, k: u32, n: u32) -> u32
 {
     let m = n - t;
     if k < m { t + k } else { k - m }
+}
+
+// The slot behind t.
+fn next(t: u32, n: u32) -> u32
+    requires { ⌜ t < n ⌝ }
+    ensures { λ r. ⌜ r ≡ wrap (t + 1) n ⌝ }
+{
+    if t + 1 == n { 0 } else { t + 1 }
 }
 
 // Writes msg to its slot.
@@ -64,19 +72,6 @@ fn numbers(idx: u32, used: u32, max: u32) -> bool
         return false;
     }
     used <= max
-}
-
-// And whether somebody waits only with m messages.
-fn sane(idx: u32, used: u32, max: u32, waits: bool, m: u32) -> bool
-    ensures { λ r. ⌜ r ≡ fitting idx used max waits m ⌝ }
-{
-    if !numbers(idx, used, max) {
-        return false;
-    }
-    if waits {
-        return used == m;
-    }
-    true
 }
 
 // Whether n messages of size bytes fit.
@@ -129,25 +124,31 @@ pub fn put_decide(
 ) -> i32
     ensures { λ r. ⌜ PutDecided «write_idx» «used_msgs» «max_msgs» «has_waiter» «is_no_wait» (now («new_write_idx» .entry)) (now («new_used» .entry)) r (now («new_write_idx» .exit)) (now («new_used» .exit)) ⌝ }
 {
-    if !sane(write_idx, used_msgs, max_msgs, has_waiter, 0) {
+    if max_msgs <= write_idx {
         return EINVAL;
     }
-    if used_msgs == max_msgs {
-        if is_no_wait {
-            return ENOMSG;
-        }
-        *new_write_idx = write_idx;
-        *new_used = used_msgs;
-        return PEND;
-    }
     if has_waiter {
+        if used_msgs != 0 {
+            return EINVAL;
+        }
         *new_write_idx = write_idx;
         *new_used = used_msgs;
         return WAKE_READER;
     }
-    *new_write_idx = around(write_idx, 1, max_msgs);
-    *new_used = used_msgs + 1;
-    STORE
+    if used_msgs < max_msgs {
+        *new_write_idx = next(write_idx, max_msgs);
+        *new_used = used_msgs + 1;
+        return STORE;
+    }
+    if max_msgs < used_msgs {
+        return EINVAL;
+    }
+    if is_no_wait {
+        return ENOMSG;
+    }
+    *new_write_idx = write_idx;
+    *new_used = used_msgs;
+    PEND
 }
 
 // READ, WAKE_WRITER or PEND; ENOMSG: it is empty; EINVAL, also if a writer waits while there is room.
@@ -162,18 +163,26 @@ pub fn get_decide(
 ) -> i32
     ensures { λ r. ⌜ GetDecided «read_idx» «used_msgs» «max_msgs» «has_waiter» «is_no_wait» (now («new_read_idx» .entry)) (now («new_used» .entry)) r (now («new_read_idx» .exit)) (now («new_used» .exit)) ⌝ }
 {
-    if !sane(read_idx, used_msgs, max_msgs, has_waiter, max_msgs) {
+    if max_msgs <= read_idx {
         return EINVAL;
     }
-    if used_msgs == 0 {
-        if is_no_wait {
-            return ENOMSG;
+    if used_msgs < max_msgs {
+        if has_waiter {
+            return EINVAL;
         }
-        *new_read_idx = read_idx;
-        *new_used = used_msgs;
-        return PEND;
+        if used_msgs == 0 {
+            if is_no_wait {
+                return ENOMSG;
+            }
+            *new_read_idx = read_idx;
+            *new_used = used_msgs;
+            return PEND;
+        }
     }
-    *new_read_idx = around(read_idx, 1, max_msgs);
+    if max_msgs < used_msgs {
+        return EINVAL;
+    }
+    *new_read_idx = next(read_idx, max_msgs);
     *new_used = used_msgs - 1;
     if has_waiter {
         return WAKE_WRITER;
@@ -291,7 +300,7 @@ pub fn get(h: &mut [u32], b: &[u8], out: &mut [u8]) -> i32
     }
     let t = h[1];
     load(b, seq::wide(t), out);
-    h[1] = around(t, 1, h[0]);
+    h[1] = next(t, h[0]);
     h[2] = used - 1;
     OK
 }

@@ -359,6 +359,9 @@ module _ (h e : List ℕ) where
     pub held-yes : 0 < getD h 0 0 → 0 < getD h 2 0 → roomy (getD h 3 0) e ≡ true → sane mutex-kind layout h e ≡ true
     held-yes f c r = roomy-sane mutex-kind layout h e z r (rw (lt-ltb 0 (getD h 0 0) f) (lt-ltb 0 (getD h 2 0) c))
 
+    pub calm-yes : 0 < getD h 0 0 → 0 < getD h 2 0 → getD h 3 0 ≡ 0 → sane mutex-kind layout h e ≡ true
+    calm-yes f c n = idle-sane mutex-kind layout h e z n (rw (lt-ltb 0 (getD h 0 0) f) (lt-ltb 0 (getD h 2 0) c))
+
     -- the thread waits, whatever the queue says
     pub lock-waits : (i p st : ℕ) → 0 < getD h 0 0 → 0 < getD h 2 0 → (getD h 1 0 ≡ i → ⊥) → (r : ℤ) (m : ℕ) (e' : List ℕ) → queue.Does (pend i p st) (getD h 3 0) e r m e'
         → Does layout (lockOut i p st) h e r (set h 3 m) e'

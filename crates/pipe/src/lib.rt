@@ -78,24 +78,24 @@ pub fn init(h: &mut [u32], b: &[u8], size: u32) -> i32
 }
 
 // A write to a pipe that takes no byte.
-fn write_refusal(h: &[u32], b: &[u8], src: &[u8]) -> i64
+fn write_refusal(h: &[u32], b: &[u8], src: &[u8]) -> i32
     requires { ⌜ (getD (now h) 3 0 ≡ 1 → 0 < length (now src) → getD (now h) 0 0 ≤ getD (now h) 2 0) ⌝ }
     ensures { λ r. ⌜ Writes (now (src .entry)) (now (h .entry)) (now (b .entry)) r (now (h .entry)) (now (b .entry)) ⌝ }
 {
     if !formed(h, b) {
-        return EINVAL as i64;
+        return EINVAL;
     }
     let flags = h[3];
     if FLAG_RESET <= flags {
-        return ECANCELED as i64;
+        return ECANCELED;
     }
     if flags == 0 {
-        return EPIPE as i64;
+        return EPIPE;
     }
     if src.len() == 0 {
-        return ENOMSG as i64;
+        return ENOMSG;
     }
-    EAGAIN as i64
+    EAGAIN
 }
 
 // How many bytes went in, the first of src. ECANCELED: resetting; EPIPE: closed; ENOMSG: src is empty; EAGAIN: full.
@@ -112,29 +112,29 @@ pub fn write(h: &mut [u32], b: &mut [u8], src: &[u8]) -> i64
             }
         }
     }
-    write_refusal(h, b, src)
+    write_refusal(h, b, src) as i64
 }
 
 // A read from a pipe that gives no byte.
-fn read_refusal(h: &[u32], b: &[u8], n: usize) -> i64
+fn read_refusal(h: &[u32], b: &[u8], n: usize) -> i32
     requires { ⌜ (getD (now h) 3 0 < 2 → 0 < n → getD (now h) 2 0 ≡ 0) ⌝ }
     ensures { λ r. ⌜ Did layout (doRead n) (now (h .entry)) (now (b .entry)) r (now (h .entry)) (now (b .entry)) ⌝ }
     ensures { λ r. ⌜ handed layout (taken n) (now (h .entry)) (now (b .entry)) ≡ [] ⌝ }
 {
     if !formed(h, b) {
-        return EINVAL as i64;
+        return EINVAL;
     }
     let flags = h[3];
     if FLAG_RESET <= flags {
-        return ECANCELED as i64;
+        return ECANCELED;
     }
     if n == 0 {
-        return ENOMSG as i64;
+        return ENOMSG;
     }
     if flags == 0 {
-        return EPIPE as i64;
+        return EPIPE;
     }
-    EAGAIN as i64
+    EAGAIN
 }
 
 // How many bytes came out, to the first of out. ECANCELED: resetting; ENOMSG: out is empty; if nothing is held EPIPE: closed, EAGAIN: open.
@@ -151,7 +151,7 @@ pub fn read(h: &mut [u32], b: &[u8], out: &mut [u8]) -> i64
             }
         }
     }
-    read_refusal(h, b, out.len())
+    read_refusal(h, b, out.len()) as i64
 }
 
 // OK: nothing is held, and it is resetting.

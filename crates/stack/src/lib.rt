@@ -92,12 +92,24 @@ pub fn init(h: &mut [u32], w: &[u64], capacity: u32) -> i32
 pub fn push(h: &mut [u32], w: &mut [u64], data: u64) -> i32
     ensures { λ r. ⌜ Pushes «data» (now (h .entry)) (now (w .entry)) r (now (h .exit)) (now (w .exit)) ⌝ }
 {
-    if !formed(h, w) {
+    if h.len() < 2 {
         return EINVAL;
     }
     let n = h[1];
-    if n == h[0] {
+    if h[0] <= n {
+        if h[0] < n {
+            return EINVAL;
+        }
+        if n == 0 {
+            return EINVAL;
+        }
+        if w.len() < seq::wide(n) {
+            return EINVAL;
+        }
         return ENOMEM;
+    }
+    if w.len() < seq::wide(h[0]) {
+        return EINVAL;
     }
     w[seq::wide(n)] = data;
     h[1] = n + 1;
@@ -108,12 +120,21 @@ pub fn push(h: &mut [u32], w: &mut [u64], data: u64) -> i32
 pub fn pop(h: &mut [u32], w: &[u64], data: &mut u64) -> i32
     ensures { λ r. ⌜ Pops (now (h .entry)) (now (w .entry)) (now («data» .entry)) r (now (h .exit)) (now («data» .exit)) ⌝ }
 {
-    if !formed(h, w) {
+    if h.len() < 2 {
         return EINVAL;
     }
     let n = h[1];
     if n == 0 {
-        return EBUSY;
+        if formed(h, w) {
+            return EBUSY;
+        }
+        return EINVAL;
+    }
+    if h[0] < n {
+        return EINVAL;
+    }
+    if w.len() < seq::wide(h[0]) {
+        return EINVAL;
     }
     h[1] = n - 1;
     *data = w[seq::wide(n - 1)];

@@ -119,11 +119,14 @@ pub fn init(h: &mut [u64], current_tick: u64) -> i32
 pub fn add(h: &mut [u64], duration: u64, deadline: &mut u64) -> i32
     ensures { λ r. ⌜ Adds «duration» (now (h .entry)) (now («deadline» .entry)) r (now (h .exit)) (now («deadline» .exit)) ⌝ }
 {
-    if !formed(h) {
+    if h.len() < 3 {
         return EINVAL;
     }
     if h[1] > 0 {
-        return EBUSY;
+        if formed(h) {
+            return EBUSY;
+        }
+        return EINVAL;
     }
     let clock = h[2];
     if K_FOREVER_TICKS - clock <= duration {
@@ -190,11 +193,16 @@ pub fn add_no_wait(h: &mut [u64]) -> i32
 pub fn abort(h: &mut [u64]) -> i32
     ensures { λ r. ⌜ Aborts (now (h .entry)) r (now (h .exit)) ⌝ }
 {
-    if !formed(h) {
+    if h.len() < 3 {
         return EINVAL;
     }
     if h[1] == 0 {
         return EINVAL;
+    }
+    if h[0] <= h[2] {
+        if !formed(h) {
+            return EINVAL;
+        }
     }
     h[1] = 0;
     OK
@@ -204,7 +212,7 @@ pub fn abort(h: &mut [u64]) -> i32
 pub fn announce(h: &mut [u64], ticks: u64) -> i32
     ensures { λ r. ⌜ Announces «ticks» (now (h .entry)) r (now (h .exit)) ⌝ }
 {
-    if !formed(h) {
+    if h.len() < 3 {
         return EINVAL;
     }
     let clock = h[2];
@@ -212,15 +220,20 @@ pub fn announce(h: &mut [u64], ticks: u64) -> i32
         return EINVAL;
     }
     let n = clock + ticks;
-    let due = h[0];
-    let active = h[1];
+    if h[1] == 0 {
+        h[2] = n;
+        return OK;
+    }
+    if n < h[0] {
+        h[2] = n;
+        return OK;
+    }
+    if h[0] < clock {
+        if !formed(h) {
+            return EINVAL;
+        }
+    }
     h[2] = n;
-    if active == 0 {
-        return OK;
-    }
-    if n < due {
-        return OK;
-    }
     h[1] = 0;
     FIRED
 }
