@@ -167,9 +167,11 @@ int64_t wq_sem_limit_get(const uint32_t *head, const uint64_t *entry);
 int64_t wq_sem_num_waiters(const uint32_t *head, const uint64_t *entry);
 bool wq_sem_audit(const uint32_t *head, const uint64_t *entry);
 
-/* On plain numbers: what give and take would do. */
-int32_t wq_sem_give_decide(uint32_t count, uint32_t limit, bool has_waiter); /* enum wq_give; WQ_EINVAL */
-int32_t wq_sem_take_decide(uint32_t count, bool is_no_wait);                 /* WQ_OK, WQ_WAITS; WQ_EBUSY */
+/* On plain numbers, whatever they are: what give and take would do.
+ * WQ_EINVAL: limit 0, a count above the limit, or somebody waits while the count is above 0. Else enum wq_give. */
+int32_t wq_sem_give_decide(uint32_t count, uint32_t limit, bool has_waiter);
+/* WQ_EBUSY: the count is 0, and the caller does not wait. Else WQ_WAITS at 0, and WQ_OK above. */
+int32_t wq_sem_take_decide(uint32_t count, bool is_no_wait);
 
 /* WQ_OK; WQ_EINVAL: limit 0, or a count above it. */
 static inline int32_t wq_k_sem_init(struct wq_sem *s, uint32_t count, uint32_t limit)
@@ -229,10 +231,12 @@ int64_t wq_mutex_num_waiters(const uint32_t *head, const uint64_t *entry);
 int64_t wq_mutex_owner_get(const uint32_t *head, const uint64_t *entry);
 bool wq_mutex_audit(const uint32_t *head, const uint64_t *entry);
 
-/* On plain numbers: what lock and unlock would do. An owner without a lock, or a lock without an owner: WQ_EINVAL. */
-int32_t wq_mutex_lock_decide(uint32_t lock_count, bool owner_is_null, bool owner_is_current,
-                             bool is_no_wait); /* enum wq_lock; WQ_EBUSY, WQ_EOVERFLOW, WQ_EINVAL */
-/* WQ_UNLOCK_RELEASED, or WQ_UNLOCK_UNLOCKED: the first that waits is to own it, if there is one; WQ_EPERM, WQ_EINVAL. */
+/* On plain numbers, whatever they are: what lock and unlock would do.
+ * WQ_EINVAL: an owner without a lock, or a lock without an owner. WQ_EOVERFLOW: its owner has 2^32 - 1 locks. WQ_EBUSY:
+ * another owns it, and the caller does not wait. Else enum wq_lock. */
+int32_t wq_mutex_lock_decide(uint32_t lock_count, bool owner_is_null, bool owner_is_current, bool is_no_wait);
+/* WQ_EINVAL: nobody owns it, or an owner without a lock. WQ_EPERM: another owns it. Else WQ_UNLOCK_RELEASED, or
+ * WQ_UNLOCK_UNLOCKED: the first that waits is to own it, if there is one. */
 int32_t wq_mutex_unlock_decide(uint32_t lock_count, bool owner_is_null, bool owner_is_current);
 
 /* WQ_OK: it is free. */

@@ -5,6 +5,8 @@ use Prim.Native.Nat.{ℕ}
 use lib.IntN.{ℤ}
 use lib.ListN.{drop}
 use Rattle.store.specs.Store as store
+use Rattle.sem.proofs.Border as sem
+use Rattle.mutex.proofs.Border as mutex
 use Rattle.system.proofs.Theorems.{all}
 use Rattle.system.proofs.Library.{code-histories}
 use Rattle.claims.specs.Claims.{Claims}
@@ -36,6 +38,7 @@ claims =
       refused-too = refused-too;
       outside = λ L f h e r h' e' d. (d .beside, d .rest);
       outside-too = outside-too;
+      border = (sem.border, mutex.border);
       objects = objects;
       laws = all .determined .laws;
       nothing-else = all .determined .next;

@@ -7,6 +7,8 @@ use lib.ListN.{drop, getD}
 use Rattle.kind.specs.Object as kind
 use Rattle.store.specs.Store as store
 use Rattle.wait_queue.specs.Post.{Refused}
+use Rattle.sem.specs.Border as sem
+use Rattle.mutex.specs.Border as mutex
 use Rattle.mutex.specs.Mutex.{Mutex, maxCount}
 use Rattle.system.specs.System.{object, Sys, Op, Kernel, reached, step, after}
 use Rattle.system.specs.Rules.{Placed, Known, Own, Formed, Bare, Kept, Start}
@@ -41,6 +43,8 @@ pub record Claims : Type 1 where
       → (drop (L .words) h' ≡ drop (L .words) h) × (drop (getD h' (L .len) 0) e' ≡ drop (getD h' (L .len) 0) e)
   pub outside-too : {S : Type 0} (P : store.Place S) (f : S → store.Reply S) (h b : List ℕ) (r : ℤ) (h' b' : List ℕ) → store.Did P f h b r h' b'
       → (drop (P .words) h' ≡ drop (P .words) h) × (drop (P .size h') b' ≡ drop (P .size h') b)
+  -- 20: what give, take, lock and unlock on plain numbers refuse
+  pub border : sem.Border × mutex.Border
   -- 4 to 6, 9, 12 to 18: objects alone, after any calls
   pub objects : Objects
   -- ---- docs/THEOREMS.md, and 3 and 7 of README.md

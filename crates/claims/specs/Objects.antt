@@ -1,6 +1,6 @@
 -- What holds of each object alone, after any sequence of calls, as its own crate states it.
 use mathlib.Core.Path.{_≡_}
-use mathlib.Core.Bool.{Bool, true, false}
+use mathlib.Core.Bool.{true, false}
 use mathlib.Core.List.{List, []}
 use Prim.Native.Nat.{ℕ, _≤_, _<_}
 use Rattle.thread.specs.Code.{ok}
@@ -12,9 +12,9 @@ use Rattle.mutex.specs.History as mutex
 use Rattle.mutex.specs.Mutex as lock
 use Rattle.futex.specs.History as futex
 use Rattle.futex.specs.Futex as value
-use Rattle.store.specs.Store as store
 use Rattle.store.specs.History as steps
 use Rattle.ring_buf.specs.Bytes as bytes
+use Rattle.ring_buf.specs.Post as rings
 use Rattle.ring_buf.specs.History as ring_buf
 use Rattle.msgq.specs.Msgq as messages
 use Rattle.msgq.specs.Post as queues
@@ -48,20 +48,16 @@ pub record Objects : Type 1 where
   pub mutex : (xs : List (histories.Event lock.Call)) → mutex.Promise xs
   pub futex : (v : ℕ) (xs : List (histories.Event value.Call)) → futex.Promise v xs
   -- in memory, from an init on that is answered 0
-  pub ring-buffer : (c : ℕ) (h b h₀ b₀ : List ℕ) → store.Started bytes.bytes (bytes.may c b) (bytes.new c b) h b ok h₀ b₀
-      → (ss : List (steps.Step ring_buf.Call)) (h' b' : List ℕ)
-      → steps.Made bytes.bytes ring_buf.does ring_buf.gives h₀ b₀ ss h' b'
+  pub ring-buffer : (c : ℕ) (h b h₀ : List ℕ) → rings.Starts c h b ok h₀ → (ss : List (steps.Step ring_buf.Call)) (h' b' : List ℕ)
+      → steps.Made bytes.bytes ring_buf.does ring_buf.gives h₀ b ss h' b'
       → (bytes.bytes .formed h' b' ≡ true) × ring_buf.Promise c ss (bytes.bytes .object h' b')
-  pub message-queue : (c z : ℕ) (h b h₀ b₀ : List ℕ) → store.Started queues.messages (queues.may z c b) (queues.new z c b) h b ok h₀ b₀
-      → (ss : List (steps.Step msgq.Call))
-      (h' b' : List ℕ) → steps.Made queues.messages msgq.does msgq.gives h₀ b₀ ss h' b'
+  pub message-queue : (c z : ℕ) (h b h₀ : List ℕ) → queues.Starts z c h b ok h₀ → (ss : List (steps.Step msgq.Call)) (h' b' : List ℕ)
+      → steps.Made queues.messages msgq.does msgq.gives h₀ b ss h' b'
       → (queues.messages .formed h' b' ≡ true) × msgq.Promise c z ss (queues.messages .object h' b')
-  pub pipe : (n : ℕ) (h b h₀ b₀ : List ℕ) → store.Started pipes.layout (bytes.may n b) (pipes.new n b) h b ok h₀ b₀
-      → (ss : List (steps.Step pipe.Call)) (h' b' : List ℕ)
-      → steps.Made pipes.layout pipe.does pipe.gives h₀ b₀ ss h' b' → (pipes.layout .formed h' b' ≡ true) × pipe.Promise n ss (pipes.layout .object h' b')
-  pub stack : (c : ℕ) (h w h₀ w₀ : List ℕ) → store.Started words.place (stacks.may c w) (stacks.fresh c w) h w ok h₀ w₀
-      → (ts : List (steps.Step stack.Call)) (h' w' : List ℕ)
-      → steps.Made words.place stack.does stack.gives h₀ w₀ ts h' w' → stack.Kept c ts h' w'
+  pub pipe : (n : ℕ) (h b h₀ : List ℕ) → pipes.Starts n h b ok h₀ → (ss : List (steps.Step pipe.Call)) (h' b' : List ℕ)
+      → steps.Made pipes.layout pipe.does pipe.gives h₀ b ss h' b' → (pipes.layout .formed h' b' ≡ true) × pipe.Promise n ss (pipes.layout .object h' b')
+  pub stack : (c : ℕ) (h w h₀ : List ℕ) → words.Starts c h w ok h₀ → (ts : List (steps.Step stack.Call)) (h' w' : List ℕ)
+      → steps.Made words.place stack.does stack.gives h₀ w ts h' w' → stack.Kept c ts h' w'
   pub memory-slab : (z n : ℕ) → mem_slab.Always z n
   -- whatever the links of a slab hold
   pub no-two : (h l : List ℕ) → blocks.NoTwo h l

@@ -8,6 +8,7 @@ use lib.Dec.{ltb}
 use lib.IntN.{ℤ, pos, negsuc}
 use lib.ListN.{length, getD, set}
 use borrow.Author.Tests.{lt-ltb, le-leb, lt-leb, ltb-true, ltb-false}
+use Rattle.seq.proofs.Words.{spell}
 use Rattle.thread.specs.Code.{ok, eagain, einval}
 use Rattle.thread.specs.Caller.{callerCode}
 use Rattle.wait_queue.specs.Queue.{maxWaiters, entry, ident, waiting, roomy, holds}
@@ -46,18 +47,8 @@ decide-again q = refl
 pub decide-waits : WaitDecided false (pos 1)
 decide-waits q = refl
 
--- a header shows its word
-pub record One (h : List ℕ) : Type 0 where
-  pub len : ℕ
-  pub rest : List ℕ
-  pub is : h ≡ len ∷ rest
-
-one : (h : List ℕ) → 1 ≤ length h → One h
-one [] k = absurd (omega arith)
-one (a ∷ t) k = record { len = a; rest = t; is = refl }
-
 left : (h : List ℕ) (n : ℕ) → 1 ≤ length h → Header layout h tt n (set h 0 n)
-left h n k = rw (one h k .is) (record { num = refl; len = refl; beside = refl; long = refl })
+left h n k = rw (spell 1 h k) (record { num = refl; len = refl; beside = refl; long = refl })
 
 module _ (h e : List ℕ) where
   pub signal-no : (w : ℕ) → sane condvar-kind layout h e ≡ false → Signals h e w einval h w

@@ -9,11 +9,11 @@ use lib.Bits.{bitAnd, bitOr}
 use lib.IntN.{ℤ, pos}
 use lib.ListN.{length, getD, set}
 use Rattle.thread.specs.Code.{ok, ebusy, einval}
-use Rattle.store.specs.Store.{Reply, refuse, accept, Decided, Becomes, Did, looks, Started}
+use Rattle.store.specs.Store.{Reply, refuse, accept, Becomes, Did, looks}
 use Rattle.store.proofs.Laws.{did-bad, did-yes, decides, looks-bad, looks-is, start-short, start-made}
 use Rattle.event.specs.Event.{masked, post, setMasked, clear, matching, told, met, waits}
 use Rattle.event.specs.Event as event
-use Rattle.event.specs.Post.{place}
+use Rattle.event.specs.Post.{Starts, Posts, Sets, SetsMasked, Clears, WaitDecided, place}
 use Rattle.event.proofs.Words.{or-is, and-is, and-not-is}
 
 becomes : (h : List ℕ) (e : ℕ) → 1 ≤ length h → Becomes place e h [] (set h 0 e) []
@@ -21,10 +21,10 @@ becomes [] e k = absurd (omega arith)
 becomes (x ∷ t) e k = record { formed = le-leb 1 (length (e ∷ t)) (omega arith); object = refl; beside = refl; rest = refl; long = (refl, refl) }
 
 module _ (h : List ℕ) where
-  pub init-short : length h < 1 → Started place true 0 h [] einval h []
+  pub init-short : length h < 1 → Starts h einval h
   init-short k = start-short k
 
-  pub init-made : 1 ≤ length h → Started place true 0 h [] ok (set h 0 0) []
+  pub init-made : 1 ≤ length h → Starts h ok (set h 0 0)
   init-made k = start-made k refl (becomes h 0 k)
 
   pub did-short : (f : ℕ → Reply ℕ) → length h < 1 → Did place f h [] einval h []
@@ -36,17 +36,17 @@ module _ (h : List ℕ) where
     stores f {e' = e'} o p q = rw (p, q) (did-yes place f h [] (le-leb 1 (length h) k) o (becomes h e' k))
 
     module _ (b : getD h 0 0 < 4294967296) (x : ℕ) (bx : x < 4294967296) {r : ℤ} where
-      pub did-post : r ≡ pos (bitOr (getD h 0 0) x) → Did place (post x) h [] r (set h 0 (bitOr (getD h 0 0) x)) []
+      pub did-post : r ≡ pos (bitOr (getD h 0 0) x) → Posts x h r (set h 0 (bitOr (getD h 0 0) x))
       did-post e = let p = or-is x (getD h 0 0) bx b in stores (post x) refl p (e ∙ ap pos p)
 
-      pub did-clear : r ≡ pos (bitAnd (getD h 0 0) (4294967295 - x)) → Did place (clear x) h [] r (set h 0 (bitAnd (getD h 0 0) (4294967295 - x))) []
+      pub did-clear : r ≡ pos (bitAnd (getD h 0 0) (4294967295 - x)) → Clears x h r (set h 0 (bitAnd (getD h 0 0) (4294967295 - x)))
       did-clear e = let p = and-not-is x (getD h 0 0) bx b in stores (clear x) refl p (e ∙ ap pos p)
 
     module _ (x : ℕ) {r : ℤ} (e : r ≡ pos (getD h 0 0)) where
-      pub did-set : Did place (event.set x) h [] r (set h 0 x) []
+      pub did-set : Sets x h r (set h 0 x)
       did-set = stores (event.set x) refl refl e
 
-      pub did-set-masked : (m : ℕ) {y : ℕ} → y ≡ masked x m (getD h 0 0) → Did place (setMasked x m) h [] r (set h 0 y) []
+      pub did-set-masked : (m : ℕ) {y : ℕ} → y ≡ masked x m (getD h 0 0) → SetsMasked x m h r (set h 0 y)
       did-set-masked m p = stores (setMasked x m) refl p e
 
   -- what it shows
@@ -68,7 +68,7 @@ module _ (e d t : ℕ) (b : Bool) where
     pub met-now : met t d e ≡ true → waits e d t b ≡ accept (matching d e) event.matched
     met-now p = rw (le-leb t 1 k, p)
 
-    pub wait-matched : (m : ℕ) → d < 4294967296 → e < 4294967296 → met t d e ≡ true → Decided (waits e d t b) m ok (bitAnd e d)
+    pub wait-matched : (m : ℕ) → d < 4294967296 → e < 4294967296 → met t d e ≡ true → WaitDecided e d t b m ok (bitAnd e d)
     wait-matched m hd he p = rw (and-is d e hd he) (decides m (met-now p))
 
     pub wait-busy : met t d e ≡ false → b ≡ true → waits e d t b ≡ refuse ebusy

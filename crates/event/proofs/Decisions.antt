@@ -7,15 +7,16 @@ use lib.Dec.{leb}
 use lib.IntN.{ℤ}
 use Rattle.thread.specs.Code.{ebusy, einval}
 use Rattle.store.specs.Store.{refuse, accept, Decided}
-use Rattle.event.specs.Event.{masked, matching, met, matched, pends, waits}
+use Rattle.event.specs.Event.{matching, met, matched, pends}
+use Rattle.event.specs.Post.{WaitDecided, PostDecided}
 use Rattle.event.specs.Upstream.{Inv, WaitDecide, PostDecide}
 use Rattle.event.proofs.Words.{and-is, replaced-is}
 
 module _ (e x : ℕ) (he : Inv e) (hx : Inv x) where
-  pub event-post-decide : (m r : ℕ) → Inv m → r ≡ masked x m e → PostDecide e x m r
+  pub event-post-decide : (m r : ℕ) → Inv m → PostDecided e x m r → PostDecide e x m r
   event-post-decide m r hm p = p ∙ sym (replaced-is x m e hx hm he)
 
-  pub event-wait-decide : (t m : ℕ) (b : Bool) (r : ℤ) (m' : ℕ) → Decided (waits e x t b) m r m' → WaitDecide e x m r m'
+  pub event-wait-decide : (t m : ℕ) (b : Bool) (r : ℤ) (m' : ℕ) → WaitDecided e x t b m r m' → WaitDecide e x m r m'
   event-wait-decide t m b r m' d = go (leb t 1) (met t x e) b d
     where
       go : (l c n : Bool) → Decided (cond l (cond c (accept (matching x e) matched) (cond n (refuse ebusy) (accept 0 pends))) (refuse einval)) m r m' → WaitDecide e x m r m'

@@ -12,24 +12,24 @@ use lib.IntN.{ℤ, pos}
 use lib.ListN.{length, getD}
 use Rattle.seq.proofs.Bits.{bits-lt}
 use Rattle.thread.specs.Code.{ok, einval}
-use Rattle.store.specs.Store.{Reply, accept, answer, Did, looks, Started}
+use Rattle.store.specs.Store.{Reply, accept, answer, Did, looks}
 use Rattle.store.proofs.Laws.{became, answers, kept-bad, looks-is, looks-bad}
 use Rattle.event.specs.Event.{width, post, set, setMasked, clear, anyThere, allThere, told}
-use Rattle.event.specs.Post.{place}
+use Rattle.event.specs.Post.{Starts, Posts, Sets, SetsMasked, Clears, ChecksAny, ChecksAll, GetsEvents, place}
 use Rattle.event.specs.Upstream.{Inv, Init, Post, Set, SetMasked, Clear, WaitCheckAny, WaitCheckAll, EventsGet}
 use Rattle.event.proofs.Words.{or-is, and-not-is, any-is, all-is, replaced-is}
 use Rattle.event.proofs.Lemmas.{post-monotonic}
 
 module _ (h : List ℕ) (r : ℤ) (h' : List ℕ) where
   -- a header of a word: it is made
-  pub event-init : 1 ≤ length h → Started place true 0 h [] r h' [] → Init r (getD h' 0 0)
+  pub event-init : 1 ≤ length h → Starts h r h' → Init r (getD h' 0 0)
   event-init k s =
       let e : r ≡ ok = s .code ∙ rw (le-leb 1 (length h) k) in
       let z : getD h' 0 0 ≡ 0 = s .made e .object in
       record { done = e; inv = rw z (omega arith); events = z }
 
   -- none: refused, and nothing changes
-  pub init-refuses : length h < 1 → Started place true 0 h [] r h' [] → (r ≡ einval) × (h' ≡ h)
+  pub init-refuses : length h < 1 → Starts h r h' → (r ≡ einval) × (h' ≡ h)
   init-refuses k s = let e : r ≡ einval = s .code ∙ rw (lt-leb 1 (length h) k) in (e, s .kept 21 e .0)
 
   -- what is too short for a word of flags is refused, and stays
@@ -46,14 +46,14 @@ module _ (h : List ℕ) (r : ℤ) (h' : List ℕ) where
         let s = le-leb 1 (length h) k in
         (became place f h [] d s o .object, answers place f h [] d s ∙ ap answer o)
 
-    pub event-set : (x : ℕ) → Inv x → Did place (set x) h [] r h' [] → Set x (getD h 0 0) r (getD h' 0 0)
+    pub event-set : (x : ℕ) → Inv x → Sets x h r h' → Set x (getD h 0 0) r (getD h' 0 0)
     event-set x i d = let y = did (set x) x (pos (getD h 0 0)) refl d in record { inv = rw (y .0) i; events = y .0; result = y .1 }
 
-    pub event-events-get : r ≡ looks place (λ e. pos e) h [] → EventsGet (getD h 0 0) r
+    pub event-events-get : GetsEvents h r → EventsGet (getD h 0 0) r
     event-events-get e = e ∙ looks-is place h [] (λ e. pos e) (le-leb 1 (length h) k)
 
     module _ (x : ℕ) (he : Inv (getD h 0 0)) (hx : Inv x) where
-      pub event-post : Did place (post x) h [] r h' [] → Post x (getD h 0 0) r (getD h' 0 0)
+      pub event-post : Posts x h r h' → Post x (getD h 0 0) r (getD h' 0 0)
       event-post d =
           let y = did (post x) _ _ refl d in
           let p = y .0 ∙ sym (or-is x (getD h 0 0) hx he) in
@@ -64,12 +64,12 @@ module _ (h : List ℕ) (r : ℤ) (h' : List ℕ) where
             monotonic = ap (bitAnd (getD h 0 0)) p ∙ and-comm (getD h 0 0) (bitOr (getD h 0 0) x) ∙ post-monotonic (getD h 0 0) x he hx .words;
           }
 
-      pub event-clear : Did place (clear x) h [] r h' [] → Clear x (getD h 0 0) r (getD h' 0 0)
+      pub event-clear : Clears x h r h' → Clear x (getD h 0 0) r (getD h' 0 0)
       event-clear d =
           let y = did (clear x) _ _ refl d in
           record { inv = rw (y .0) (bits-lt width _); events = y .0 ∙ sym (and-not-is x (getD h 0 0) hx he); result = y .1 ∙ ap pos (sym (y .0)) }
 
-      pub event-set-masked : (m : ℕ) → Inv m → Did place (setMasked x m) h [] r h' [] → SetMasked x m (getD h 0 0) r (getD h' 0 0)
+      pub event-set-masked : (m : ℕ) → Inv m → SetsMasked x m h r h' → SetMasked x m (getD h 0 0) r (getD h' 0 0)
       event-set-masked m hm d =
           let y = did (setMasked x m) _ _ refl d in
           record { inv = rw (y .0) (bits-lt width _); events = y .0 ∙ sym (replaced-is x m (getD h 0 0) hx hm he); result = y .1 }
@@ -78,14 +78,14 @@ module _ (h : List ℕ) (r : ℤ) (h' : List ℕ) where
       tells : (f : ℕ → Bool) (b : Bool) → b ≡ f (getD h 0 0) → r ≡ looks place (λ e. told (f e)) h [] → r ≡ told b
       tells f b p e = e ∙ looks-is place h [] (λ e. told (f e)) (le-leb 1 (length h) k) ∙ ap told (sym p)
 
-      pub event-wait-check-any : r ≡ looks place (λ e. told (anyThere x e)) h [] → WaitCheckAny x (getD h 0 0) r
+      pub event-wait-check-any : ChecksAny x h r → WaitCheckAny x (getD h 0 0) r
       event-wait-check-any e = go (eqb (bitAnd (getD h 0 0) x) 0) refl (tells (anyThere x) _ (any-is x (getD h 0 0) hx he) e)
         where
           go : (b : Bool) → eqb (bitAnd (getD h 0 0) x) 0 ≡ b → r ≡ told (not b) → WaitCheckAny x (getD h 0 0) r
           go true p q = inr (q, λ n. n (eqb-true _ 0 p))
           go false p q = inl (q, eqb-false _ 0 p)
 
-      pub event-wait-check-all : r ≡ looks place (λ e. told (allThere x e)) h [] → WaitCheckAll x (getD h 0 0) r
+      pub event-wait-check-all : ChecksAll x h r → WaitCheckAll x (getD h 0 0) r
       event-wait-check-all e = go (eqb (bitAnd (getD h 0 0) x) x) refl (tells (allThere x) _ (all-is x (getD h 0 0) hx he) e)
         where
           go : (b : Bool) → eqb (bitAnd (getD h 0 0) x) x ≡ b → r ≡ told b → WaitCheckAll x (getD h 0 0) r

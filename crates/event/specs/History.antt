@@ -6,10 +6,10 @@ use Prim.Native.Nat.{ℕ, _≤_, _<_}
 use lib.ListN.{length, getD}
 use Rattle.seq.specs.Bits.{bit}
 use Rattle.thread.specs.Code.{ok}
-use Rattle.store.specs.Store.{Reply, left, Started}
+use Rattle.store.specs.Store.{Reply, left}
 use Rattle.store.specs.History.{Event, Run}
 use Rattle.event.specs.Event.{width, post, set, setMasked, clear, posted, masked, cleared}
-use Rattle.event.specs.Post.{place}
+use Rattle.event.specs.Post.{Starts, place}
 
 pub data Call : Type 0 where
   posting : (new : ℕ) → Call
@@ -58,7 +58,7 @@ Always = (h h' : List ℕ) (es : List (Event Call)) → 1 ≤ length h → Run p
 -- and from an init on, where no flag is there
 abbrev pub FromInit : Type 0
 FromInit =
-    (h h₀ h' : List ℕ) (es : List (Event Call)) → Started place true 0 h [] ok h₀ [] → Run place does h₀ [] es h' []
+    (h h₀ h' : List ℕ) (es : List (Event Call)) → Starts h ok h₀ → Run place does h₀ [] es h' []
     → (i : ℕ) → i < width → bit i (getD h' 0 0) ≡ lastSaid false i es
 
 -- each call is one that replaces the flags of a mask, as post_decide does

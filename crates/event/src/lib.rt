@@ -3,12 +3,8 @@ use thread::EBUSY;
 use thread::EINVAL;
 use thread::OK;
 ghost use mathlib.Core.Path.{_≡_};
-ghost use mathlib.Core.Bool.{true};
-ghost use mathlib.Core.List.{[]};
-ghost use lib.IntN.{pos};
-ghost use Rattle.store.specs.Store.{Decided, Did, looks, Started};
-ghost use Rattle.event.specs.Event.{masked, post, set, setMasked, clear, anyThere, allThere, told, met, waits};
-ghost use Rattle.event.specs.Post.{place};
+ghost use Rattle.event.specs.Event.{post, set, clear, anyThere, allThere, met};
+ghost use Rattle.event.specs.Post.{Starts, Posts, Sets, SetsMasked, Clears, ChecksAny, ChecksAll, GetsEvents, WaitDecided, PostDecided};
 
 // For what a thread waits: for any desired flag, or for all of them.
 pub const WAIT_ANY: u32 = 0;
@@ -22,7 +18,7 @@ pub const PEND: i32 = 1;
 
 // OK: no flag is there.
 pub fn init(h: &mut [u32]) -> i32
-    ensures { λ r. ⌜ Started place true 0 (now (h .entry)) [] r (now (h .exit)) [] ⌝ }
+    ensures { λ r. ⌜ Starts (now (h .entry)) r (now (h .exit)) ⌝ }
 {
     if h.len() < 1 {
         return EINVAL;
@@ -33,7 +29,7 @@ pub fn init(h: &mut [u32]) -> i32
 
 // The flags after it.
 pub fn post(h: &mut [u32], new_events: u32) -> i64
-    ensures { λ r. ⌜ Did place (post «new_events») (now (h .entry)) [] r (now (h .exit)) [] ⌝ }
+    ensures { λ r. ⌜ Posts «new_events» (now (h .entry)) r (now (h .exit)) ⌝ }
 {
     if h.len() < 1 {
         return -22;
@@ -45,7 +41,7 @@ pub fn post(h: &mut [u32], new_events: u32) -> i64
 
 // The flags before it.
 pub fn set(h: &mut [u32], new_events: u32) -> i64
-    ensures { λ r. ⌜ Did place (set «new_events») (now (h .entry)) [] r (now (h .exit)) [] ⌝ }
+    ensures { λ r. ⌜ Sets «new_events» (now (h .entry)) r (now (h .exit)) ⌝ }
 {
     if h.len() < 1 {
         return -22;
@@ -57,7 +53,7 @@ pub fn set(h: &mut [u32], new_events: u32) -> i64
 
 // The flags before it.
 pub fn set_masked(h: &mut [u32], new_events: u32, mask: u32) -> i64
-    ensures { λ r. ⌜ Did place (setMasked «new_events» mask) (now (h .entry)) [] r (now (h .exit)) [] ⌝ }
+    ensures { λ r. ⌜ SetsMasked «new_events» mask (now (h .entry)) r (now (h .exit)) ⌝ }
 {
     if h.len() < 1 {
         return -22;
@@ -69,7 +65,7 @@ pub fn set_masked(h: &mut [u32], new_events: u32, mask: u32) -> i64
 
 // The flags after it.
 pub fn clear(h: &mut [u32], clear_events: u32) -> i64
-    ensures { λ r. ⌜ Did place (clear «clear_events») (now (h .entry)) [] r (now (h .exit)) [] ⌝ }
+    ensures { λ r. ⌜ Clears «clear_events» (now (h .entry)) r (now (h .exit)) ⌝ }
 {
     if h.len() < 1 {
         return -22;
@@ -105,7 +101,7 @@ fn is_met(e: u32, d: u32, wait_type: u32) -> bool
 
 // 1: yes; 0: no.
 pub fn wait_check_any(h: &[u32], desired: u32) -> i32
-    ensures { λ r. ⌜ r ≡ looks place (λ e. told (anyThere desired e)) (now (h .entry)) [] ⌝ }
+    ensures { λ r. ⌜ ChecksAny desired (now (h .entry)) r ⌝ }
 {
     if h.len() < 1 {
         return EINVAL;
@@ -118,7 +114,7 @@ pub fn wait_check_any(h: &[u32], desired: u32) -> i32
 
 // 1: yes; 0: no.
 pub fn wait_check_all(h: &[u32], desired: u32) -> i32
-    ensures { λ r. ⌜ r ≡ looks place (λ e. told (allThere desired e)) (now (h .entry)) [] ⌝ }
+    ensures { λ r. ⌜ ChecksAll desired (now (h .entry)) r ⌝ }
 {
     if h.len() < 1 {
         return EINVAL;
@@ -130,7 +126,7 @@ pub fn wait_check_all(h: &[u32], desired: u32) -> i32
 }
 
 pub fn events_get(h: &[u32]) -> i64
-    ensures { λ r. ⌜ r ≡ looks place (λ e. pos e) (now (h .entry)) [] ⌝ }
+    ensures { λ r. ⌜ GetsEvents (now (h .entry)) r ⌝ }
 {
     if h.len() < 1 {
         return -22;
@@ -147,7 +143,7 @@ pub fn wait_decide(
     is_no_wait: bool,
     matched: &mut u32,
 ) -> i32
-    ensures { λ r. ⌜ Decided (waits «current_events» desired «wait_type» «is_no_wait») (now (matched .entry)) r (now (matched .exit)) ⌝ }
+    ensures { λ r. ⌜ WaitDecided «current_events» desired «wait_type» «is_no_wait» (now (matched .entry)) r (now (matched .exit)) ⌝ }
 {
     if WAIT_ALL < wait_type {
         return EINVAL;
@@ -165,7 +161,7 @@ pub fn wait_decide(
 
 // The flags of the mask are as in new_events, the others as they are.
 pub fn post_decide(current_events: u32, new_events: u32, mask: u32) -> u32
-    ensures { λ r. ⌜ r ≡ masked «new_events» mask «current_events» ⌝ }
+    ensures { λ r. ⌜ PostDecided «current_events» «new_events» mask r ⌝ }
 {
     (current_events & !mask) | (new_events & mask)
 }

@@ -9,6 +9,7 @@ use lib.IntN.{ℤ, pos, negsuc}
 use lib.ListN.{length, getD, length-map}
 use lib.ListN as list
 use borrow.Author.Tests.{lt-ltb, le-leb, lt-leb, ltb-true, ltb-false, eq-eqb, ne-eqb}
+use Rattle.seq.proofs.Words.{spell}
 use Rattle.thread.specs.Code.{ok, eagain, einval}
 use Rattle.thread.specs.Caller.{callerCode}
 use Rattle.wait_queue.specs.Queue.{maxWaiters, ident, waiting}
@@ -48,27 +49,15 @@ module _ (n m : ℕ) where
     decide-one k s [] z = absurd (omega arith)
     decide-one k s (x ∷ q) z = let y = le-leb n maxWaiters (ltb-false maxWaiters n h) in (rw y refl, rw y (omega arith))
 
--- a header shows its two words
-pub record Two (h : List ℕ) : Type 0 where
-  pub val : ℕ
-  pub len : ℕ
-  pub rest : List ℕ
-  pub is : h ≡ val ∷ len ∷ rest
-
-two : (h : List ℕ) → 2 ≤ length h → Two h
-two [] k = absurd (omega arith)
-two (a ∷ []) k = absurd (omega arith)
-two (a ∷ b ∷ t) k = record { val = a; len = b; rest = t; is = refl }
-
 module _ (h : List ℕ) (k : 2 ≤ length h) where
   valued : (x : ℕ) → Header layout h (mk x) (getD h 1 0) (list.set h 0 x)
-  valued x = rw (two h k .is) (record { num = refl; len = refl; beside = refl; long = refl })
+  valued x = rw (spell 2 h k) (record { num = refl; len = refl; beside = refl; long = refl })
 
   left : (n : ℕ) → Header layout h (layout .num h) n (list.set h 1 n)
-  left n = rw (two h k .is) (record { num = refl; len = refl; beside = refl; long = refl })
+  left n = rw (spell 2 h k) (record { num = refl; len = refl; beside = refl; long = refl })
 
   new : (x : ℕ) → Header layout h (mk x) 0 (list.set (list.set h 0 x) 1 0)
-  new x = rw (two h k .is) (record { num = refl; len = refl; beside = refl; long = refl })
+  new x = rw (spell 2 h k) (record { num = refl; len = refl; beside = refl; long = refl })
 
 module _ (h e : List ℕ) where
   pub wait-no : (x i p st : ℕ) → sane futex-kind layout h e ≡ false → Waits x i p st h e einval h e

@@ -5,3 +5,4 @@ pub mod Picks
 pub mod Lines
 pub mod Histories
 pub mod Determined
+pub mod Refusals

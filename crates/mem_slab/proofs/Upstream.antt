@@ -17,7 +17,7 @@ use Rattle.thread.specs.Code.{ok, einval}
 use Rattle.store.specs.Store.{Reply, refuse, accept, answer, reply, After, Becomes}
 use Rattle.store.proofs.Laws.{no-code, became, answers}
 use Rattle.mem_slab.specs.Slab.{Slab, leads, alloc, free, given}
-use Rattle.mem_slab.specs.Post.{slab, place, fit, led, Allocs, Frees, sees, isFull, isEmpty, Starts, AllocDecided, FreeDecided}
+use Rattle.mem_slab.specs.Post.{CountsUsed, CountsFree, CountsBlocks, GetsBlockSize, SaysFull, SaysEmpty, slab, place, fit, led, Allocs, Frees, sees, isFull, isEmpty, Starts, AllocDecided, FreeDecided}
 use Rattle.mem_slab.specs.Blocks.{Call, allocCall, freeCall, meant, Calls, out}
 use Rattle.mem_slab.specs.Upstream.{Inv, Init, Keeps, Alloc, Free, NumUsedGet, NumFreeGet, NumBlocksGet, BlockSizeGet, IsFull, IsEmpty, AllocDecide, FreeDecide, Inductive, AllocFree, AllocFreeMemory, FreeAlloc, Conserves, FullRejects, AllFreeRejects}
 use Rattle.mem_slab.proofs.Memory.{both, Fit, fit-is, is-fit, is-sound, next-link, reply-unfit, unseen, seen}
@@ -152,22 +152,22 @@ module _ (h l : List ℕ) (r : ℤ) (h' l' : List ℕ) where
     gets : (g : Slab → ℤ) → r ≡ sees g h l → r ≡ g (slab h l)
     gets g d = d ∙ sym (seen h l g f)
 
-    pub num-used-get : r ≡ sees (λ s. pos (s .used)) h l → NumUsedGet (slab h l) r
+    pub num-used-get : CountsUsed h l r → NumUsedGet (slab h l) r
     num-used-get = gets (λ s. pos (s .used))
 
-    pub num-free-get : r ≡ sees (λ s. pos (s .blocks - s .used)) h l → NumFreeGet (slab h l) r
+    pub num-free-get : CountsFree h l r → NumFreeGet (slab h l) r
     num-free-get = gets (λ s. pos (s .blocks - s .used))
 
-    pub num-blocks-get : r ≡ sees (λ s. pos (s .blocks)) h l → NumBlocksGet (slab h l) r
+    pub num-blocks-get : CountsBlocks h l r → NumBlocksGet (slab h l) r
     num-blocks-get = gets (λ s. pos (s .blocks))
 
-    pub block-size-get : r ≡ sees (λ s. pos (s .size)) h l → BlockSizeGet (slab h l) r
+    pub block-size-get : GetsBlockSize h l r → BlockSizeGet (slab h l) r
     block-size-get = gets (λ s. pos (s .size))
 
-    pub is-full : r ≡ sees isFull h l → IsFull (slab h l) r
+    pub is-full : SaysFull h l r → IsFull (slab h l) r
     is-full d = record { full = λ e. gets isFull d ∙ full (slab h l) e; other = λ e. gets isFull d ∙ not-full (slab h l) e }
 
-    pub is-empty : r ≡ sees isEmpty h l → IsEmpty (slab h l) r
+    pub is-empty : SaysEmpty h l r → IsEmpty (slab h l) r
     is-empty d = record { empty = λ e. gets isEmpty d ∙ empty (slab h l) e; other = λ e. gets isEmpty d ∙ not-empty (slab h l) e }
 
   abbrev pub Refused : Type 0

@@ -1,13 +1,11 @@
 -- No contract of a public function leaves anything open: of two outcomes from the same memory and the same numbers that both meet it, the answers
 -- are the same, and so is every word.
-use mathlib.Core.Path.{_≡_}
 use mathlib.Core.Bool.{Bool}
 use mathlib.Core.List.{List}
 use Prim.Native.Nat.{ℕ, _-_}
-use lib.IntN.{ℤ, pos}
+use lib.IntN.{ℤ}
 use Rattle.seq.specs.Only.{Only}
-use Rattle.mem_slab.specs.Slab.{Slab}
-use Rattle.mem_slab.specs.Post.{Allocs, Frees, sees, isFull, isEmpty, Starts, AllocDecided, FreeDecided}
+use Rattle.mem_slab.specs.Post.{CountsUsed, CountsFree, CountsBlocks, GetsBlockSize, SaysFull, SaysEmpty, Allocs, Frees, Starts, AllocDecided, FreeDecided}
 
 pub record Determined : Type 0 where
   pub alloc-decide : (used blocks : ℕ) (noWait : Bool) (n : ℕ) → Only (λ ((r, n') : ℤ × ℕ). AllocDecided used blocks noWait n r n')
@@ -15,9 +13,9 @@ pub record Determined : Type 0 where
   pub init : (size blocks : ℕ) (h l : List ℕ) → Only (λ ((r, h', l') : ℤ × List ℕ × List ℕ). Starts size blocks h l r h' l')
   pub alloc : (h l : List ℕ) → Only (λ ((r, h', l') : ℤ × List ℕ × List ℕ). Allocs h l r h' l')
   pub free : (block : ℕ) (h l : List ℕ) → Only (λ ((r, h', l') : ℤ × List ℕ × List ℕ). Frees block h l r h' l')
-  pub num-used-get : (h l : List ℕ) → Only (λ (r : ℤ). r ≡ sees (λ (s : Slab). pos (s .used)) h l)
-  pub num-free-get : (h l : List ℕ) → Only (λ (r : ℤ). r ≡ sees (λ (s : Slab). pos (s .blocks - s .used)) h l)
-  pub num-blocks-get : (h l : List ℕ) → Only (λ (r : ℤ). r ≡ sees (λ (s : Slab). pos (s .blocks)) h l)
-  pub block-size-get : (h l : List ℕ) → Only (λ (r : ℤ). r ≡ sees (λ (s : Slab). pos (s .size)) h l)
-  pub is-full : (h l : List ℕ) → Only (λ (r : ℤ). r ≡ sees isFull h l)
-  pub is-empty : (h l : List ℕ) → Only (λ (r : ℤ). r ≡ sees isEmpty h l)
+  pub num-used-get : (h l : List ℕ) → Only (λ (r : ℤ). CountsUsed h l r)
+  pub num-free-get : (h l : List ℕ) → Only (λ (r : ℤ). CountsFree h l r)
+  pub num-blocks-get : (h l : List ℕ) → Only (λ (r : ℤ). CountsBlocks h l r)
+  pub block-size-get : (h l : List ℕ) → Only (λ (r : ℤ). GetsBlockSize h l r)
+  pub is-full : (h l : List ℕ) → Only (λ (r : ℤ). SaysFull h l r)
+  pub is-empty : (h l : List ℕ) → Only (λ (r : ℤ). SaysEmpty h l r)

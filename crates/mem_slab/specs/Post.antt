@@ -1,8 +1,9 @@
 -- The slab in memory: h = how many blocks, a block's size, how many are out, the block that is given next; l = the links. What each
 -- function does.
+use mathlib.Core.Path.{_≡_}
 use mathlib.Core.Bool.{Bool, true, false, cond, _&&_}
 use mathlib.Core.List.{List}
-use Prim.Native.Nat.{ℕ}
+use Prim.Native.Nat.{ℕ, _-_}
 use lib.Dec.{ltb, leb, eqb}
 use lib.IntN.{ℤ, pos}
 use lib.ListN.{length, getD, take}
@@ -25,11 +26,13 @@ fit h l = place .formed h l && leads (slab h l)
 abbrev pub led : {S : Type 0} → (Slab → Reply S) → Slab → Reply S
 led f s = cond (leads s) (f s) (refuse einval)
 
+-- the block that is given next is out
 abbrev pub Allocs : List ℕ → List ℕ → ℤ → List ℕ → List ℕ → Type 0
-Allocs = Did place (led alloc)
+Allocs h l r h' l' = Did place (led alloc) h l r h' l'
 
+-- the block b is not out any more; it is given next
 abbrev pub Frees : ℕ → List ℕ → List ℕ → ℤ → List ℕ → List ℕ → Type 0
-Frees b = Did place (led (free b))
+Frees b h l r h' l' = Did place (led (free b)) h l r h' l'
 
 -- a number of a slab
 abbrev pub sees : (Slab → ℤ) → List ℕ → List ℕ → ℤ
@@ -48,12 +51,31 @@ isFull s = truth (eqb (s .used) (s .blocks))
 abbrev pub isEmpty : Slab → ℤ
 isEmpty s = truth (eqb (s .used) 0)
 
+abbrev pub CountsUsed : List ℕ → List ℕ → ℤ → Type 0
+CountsUsed h l r = r ≡ sees (λ (s : Slab). pos (s .used)) h l
+
+abbrev pub CountsFree : List ℕ → List ℕ → ℤ → Type 0
+CountsFree h l r = r ≡ sees (λ (s : Slab). pos (s .blocks - s .used)) h l
+
+abbrev pub CountsBlocks : List ℕ → List ℕ → ℤ → Type 0
+CountsBlocks h l r = r ≡ sees (λ (s : Slab). pos (s .blocks)) h l
+
+abbrev pub GetsBlockSize : List ℕ → List ℕ → ℤ → Type 0
+GetsBlockSize h l r = r ≡ sees (λ (s : Slab). pos (s .size)) h l
+
+abbrev pub SaysFull : List ℕ → List ℕ → ℤ → Type 0
+SaysFull h l r = r ≡ sees isFull h l
+
+abbrev pub SaysEmpty : List ℕ → List ℕ → ℤ → Type 0
+SaysEmpty h l r = r ≡ sees isEmpty h l
+
 -- a new slab, of some blocks of some size, each with a link
 abbrev pub Starts : ℕ → ℕ → List ℕ → List ℕ → ℤ → List ℕ → List ℕ → Type 0
-Starts size blocks h l = Started place (ltb 0 size && (ltb 0 blocks && leb blocks (length l))) (fresh size blocks) h l
+Starts size blocks h l r h' l' = Started place (ltb 0 size && (ltb 0 blocks && leb blocks (length l))) (fresh size blocks) h l r h' l'
 
+-- on plain numbers: how many are out then
 abbrev pub AllocDecided : ℕ → ℕ → Bool → ℕ → ℤ → ℕ → Type 0
-AllocDecided used blocks noWait = Decided (cond (ltb 0 blocks && leb used blocks) (allocs used blocks noWait) (refuse einval))
+AllocDecided used blocks noWait n r n' = Decided (cond (ltb 0 blocks && leb used blocks) (allocs used blocks noWait) (refuse einval)) n r n'
 
 abbrev pub FreeDecided : ℕ → Bool → ℕ → ℤ → ℕ → Type 0
-FreeDecided used waiter = Decided (frees used waiter)
+FreeDecided used waiter n r n' = Decided (frees used waiter) n r n'

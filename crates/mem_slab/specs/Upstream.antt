@@ -9,7 +9,7 @@ use lib.IntN.{ℤ, pos}
 use Rattle.thread.specs.Code.{ok, enomem, einval}
 use Rattle.store.specs.Store.{refuse, accept}
 use Rattle.mem_slab.specs.Slab.{Slab, allocs, frees, waits, woke}
-use Rattle.mem_slab.specs.Post.{slab, fit, Allocs, Frees, sees, Starts}
+use Rattle.mem_slab.specs.Post.{CountsUsed, CountsFree, CountsBlocks, slab, fit, Allocs, Frees, Starts}
 use Rattle.mem_slab.specs.Blocks.{Call, Calls}
 
 -- MemSlab::inv
@@ -146,8 +146,7 @@ pub record FreeAlloc (used blocks : ℕ) : Type 0 where
 -- lemma_conservation: (num_blocks - num_used) + num_used == num_blocks, of the answers
 abbrev pub Conserves : List ℕ → List ℕ → Type 0
 Conserves h l =
-    (f u n : ℕ) → pos f ≡ sees (λ s. pos (s .blocks - s .used)) h l → pos u ≡ sees (λ s. pos (s .used)) h l → pos n ≡ sees (λ s. pos (s .blocks)) h l
-    → f + u ≡ n
+    (f u n : ℕ) → CountsFree h l (pos f) → CountsUsed h l (pos u) → CountsBlocks h l (pos n) → f + u ≡ n
 
 -- lemma_full_rejects_alloc ensures what it requires. What its name says
 abbrev pub FullRejects : ℕ → ℕ → Type 0

@@ -6,11 +6,10 @@ use thread::OK;
 ghost use mathlib.Core.Path.{_≡_};
 ghost use mathlib.Core.Bool.{_&&_};
 ghost use Prim.Native.Nat.{_-_, _≤_, _<_};
-ghost use lib.IntN.{pos};
 ghost use lib.ListN.{length, getD, set};
 ghost use Rattle.store.specs.Store.{Filled};
-ghost use Rattle.mem_slab.specs.Slab.{Slab, isOut, newLinks};
-ghost use Rattle.mem_slab.specs.Post.{slab, fit, Allocs, Frees, sees, isFull, isEmpty, Starts, AllocDecided, FreeDecided};
+ghost use Rattle.mem_slab.specs.Slab.{isOut, newLinks};
+ghost use Rattle.mem_slab.specs.Post.{CountsUsed, CountsFree, CountsBlocks, GetsBlockSize, SaysFull, SaysEmpty, slab, fit, Allocs, Frees, Starts, AllocDecided, FreeDecided};
 
 // What alloc_decide answers one that is to wait.
 pub const WAITS: i32 = 1;
@@ -184,7 +183,7 @@ fn is_out(h: &[u32], l: &[u32], block: u32) -> bool
 }
 
 pub fn num_used_get(h: &[u32], l: &[u32]) -> i64
-    ensures { λ r. ⌜ r ≡ sees (λ (s : Slab). pos (s .used)) (now (h .entry)) (now (l .entry)) ⌝ }
+    ensures { λ r. ⌜ CountsUsed (now (h .entry)) (now (l .entry)) r ⌝ }
 {
     if !formed(h, l) {
         return -22;
@@ -193,7 +192,7 @@ pub fn num_used_get(h: &[u32], l: &[u32]) -> i64
 }
 
 pub fn num_free_get(h: &[u32], l: &[u32]) -> i64
-    ensures { λ r. ⌜ r ≡ sees (λ (s : Slab). pos (s .blocks - s .used)) (now (h .entry)) (now (l .entry)) ⌝ }
+    ensures { λ r. ⌜ CountsFree (now (h .entry)) (now (l .entry)) r ⌝ }
 {
     if !formed(h, l) {
         return -22;
@@ -202,7 +201,7 @@ pub fn num_free_get(h: &[u32], l: &[u32]) -> i64
 }
 
 pub fn num_blocks_get(h: &[u32], l: &[u32]) -> i64
-    ensures { λ r. ⌜ r ≡ sees (λ (s : Slab). pos (s .blocks)) (now (h .entry)) (now (l .entry)) ⌝ }
+    ensures { λ r. ⌜ CountsBlocks (now (h .entry)) (now (l .entry)) r ⌝ }
 {
     if !formed(h, l) {
         return -22;
@@ -211,7 +210,7 @@ pub fn num_blocks_get(h: &[u32], l: &[u32]) -> i64
 }
 
 pub fn block_size_get(h: &[u32], l: &[u32]) -> i64
-    ensures { λ r. ⌜ r ≡ sees (λ (s : Slab). pos (s .size)) (now (h .entry)) (now (l .entry)) ⌝ }
+    ensures { λ r. ⌜ GetsBlockSize (now (h .entry)) (now (l .entry)) r ⌝ }
 {
     if !formed(h, l) {
         return -22;
@@ -221,7 +220,7 @@ pub fn block_size_get(h: &[u32], l: &[u32]) -> i64
 
 // 1: all blocks are out; 0.
 pub fn is_full(h: &[u32], l: &[u32]) -> i32
-    ensures { λ r. ⌜ r ≡ sees isFull (now (h .entry)) (now (l .entry)) ⌝ }
+    ensures { λ r. ⌜ SaysFull (now (h .entry)) (now (l .entry)) r ⌝ }
 {
     if !formed(h, l) {
         return EINVAL;
@@ -234,7 +233,7 @@ pub fn is_full(h: &[u32], l: &[u32]) -> i32
 
 // 1: none is out; 0.
 pub fn is_empty(h: &[u32], l: &[u32]) -> i32
-    ensures { λ r. ⌜ r ≡ sees isEmpty (now (h .entry)) (now (l .entry)) ⌝ }
+    ensures { λ r. ⌜ SaysEmpty (now (h .entry)) (now (l .entry)) r ⌝ }
 {
     if !formed(h, l) {
         return EINVAL;

@@ -17,7 +17,7 @@ use Rattle.ring_buf.specs.Ring.{wrap, turn, ring, leave}
 use Rattle.ring_buf.proofs.Rings.{wrap-below, turn-paste, appended, left, led, drop-within}
 use Rattle.msgq.specs.Messages.{slots}
 use Rattle.msgq.specs.Msgq.{Msgq, having, given, put, putFront, get, peek, seen, purge}
-use Rattle.msgq.specs.Post.{sound, takes, held, messages}
+use Rattle.msgq.specs.Post.{Puts, PutsFront, Purges, sound, takes, held, messages}
 use Rattle.msgq.proofs.Slots.{slot-room, slot-paste}
 use Rattle.msgq.proofs.Headers.{Sound}
 use Rattle.msgq.proofs.Places.{becomes, set-used, set-both}
@@ -74,10 +74,10 @@ module _ (h b : List ℕ) where
 
     -- no room
     module _ (m : List ℕ) where
-      pub put-full : length m ≡ z → n ≡ c → Did messages (put m) h b enomsg h b
+      pub put-full : length m ≡ z → n ≡ c → Puts m h b enomsg h b
       put-full e f = did-no messages (put m) h b good (rw (eq-eqb (length m) z e, hold, le-ltb n c (omega arith)))
 
-      pub front-full : length m ≡ z → n ≡ c → Did messages (putFront m) h b enomsg h b
+      pub front-full : length m ≡ z → n ≡ c → PutsFront m h b enomsg h b
       front-full e f = did-no messages (putFront m) h b good (rw (eq-eqb (length m) z e, hold, le-ltb n c (omega arith)))
 
       -- the message in the slot a
@@ -97,7 +97,7 @@ module _ (h b : List ℕ) where
         in-slot : slots z c b' ≡ paste S a (m ∷ []) 1
         in-slot = ap (slots z c) is ∙ slot-paste z c a b m g e (s .room .long)
 
-        pub put-done : a ≡ wrap (t + n) c → Did messages (put m) h b ok (set h 2 (n + 1)) b'
+        pub put-done : a ≡ wrap (t + n) c → Puts m h b ok (set h 2 (n + 1)) b'
         put-done v =
             did-yes messages (put m) h b good (rw (eq-eqb (length m) z e, hold, lt-ltb n c f))
             (becomes h b (set h 2 (n + 1)) b' c t (n + 1) z (s .words) (set-used h (s .words) (n + 1)) (s .within .idx) (omega arith) (s .room) same behind
@@ -105,7 +105,7 @@ module _ (h b : List ℕ) where
             (ap (turn t) in-slot
             ∙ turn-paste t n 1 S (m ∷ []) (omega (arith, many)) (omega (arith, many)) (omega arith) a (v ∙ ap (wrap (t + n)) (sym many)) (omega (arith, many)))))
 
-        pub front-done : a ≡ wrap (t + (c - 1)) c → Did messages (putFront m) h b ok (set (set h 1 a) 2 (n + 1)) b'
+        pub front-done : a ≡ wrap (t + (c - 1)) c → PutsFront m h b ok (set (set h 1 a) 2 (n + 1)) b'
         front-done v =
             did-yes messages (putFront m) h b good (rw (eq-eqb (length m) z e, hold, lt-ltb n c f))
             (becomes h b (set (set h 1 a) 2 (n + 1)) b' c a (n + 1) z (s .words) (set-both h (s .words) a (n + 1)) g (omega arith) (s .room) same behind
@@ -123,7 +123,7 @@ module _ (h b : List ℕ) where
           (omega (arith, wrap-below (t + 1) c (omega (arith, s .within .idx)))) (omega (arith, s .within .used)) (s .room) refl refl
           (ap (λ (x : ℕ). ring c x (n - 1) S) v ∙ left c t n S many (s .within .idx) (s .within .used) 1 f))
 
-    pub purge-done : (a : ℕ) → a ≡ wrap (t + n) c → Did messages purge h b (pos n) (set (set h 1 a) 2 0) b
+    pub purge-done : (a : ℕ) → a ≡ wrap (t + n) c → Purges h b (pos n) (set (set h 1 a) 2 0)
     purge-done a v =
         let y : n - n ≡ 0 = omega arith in
         did-yes messages purge h b good (λ i. accept (having (leave (hold i) (ring c t n S)) (held h b)) (pos (hold i)))

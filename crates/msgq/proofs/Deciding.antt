@@ -3,23 +3,18 @@ use mathlib.Core.Path.{_≡_, refl, sym, ap, _∙_}
 use mathlib.Core.Bool.{Bool, true, false}
 use Prim.Native.Nat.{ℕ, _+_, _-_, _≤_, _<_}
 use native.Mathlib.Omega.{arith}
-use borrow.Author.Tests.{eq-eqb}
 use lib.IntN.{ℤ}
-use Rattle.store.specs.Store.{Reply, accept, refuse, answer, settled, Decided}
+use Rattle.store.specs.Store.{Reply, accept, refuse, answer, settled}
 use Rattle.store.proofs.Laws.{decided, declined}
 use Rattle.thread.specs.Code.{ok}
 use Rattle.ring_buf.specs.Ring.{wrap}
 use Rattle.ring_buf.proofs.Rings.{wrap-low, wrap-high, wrap-below}
 use Rattle.msgq.specs.Msgq.{Numbers, counts}
-use Rattle.msgq.specs.Post.{sane, putDecision, getDecision, putFrontDecision, peekDecision, Settled}
+use Rattle.msgq.specs.Post.{PutDecided, GetDecided, PutFrontDecided, PeekAtDecided, sane, Settled}
 use Rattle.msgq.specs.Upstream.{nextIdx, prevIdx, PutDecide, GetDecide, PutFrontDecide, PeekAtDecide}
-use Rattle.msgq.proofs.Headers.{is-within}
+use Rattle.msgq.proofs.Headers.{by-both, is-within, is-sane}
 use Rattle.msgq.proofs.Decisions.{put-refuses, put-pends, put-wakes, put-stores, get-refuses, get-pends, get-wakes, get-reads, lead-refuses, lead-stores, peek-past, peek-finds}
 use Rattle.msgq.proofs.Implied.{next-is, prev-is}
-
-by-both : {P : Type 0} (w : Bool) → (w ≡ true → P) → (w ≡ false → P) → P
-by-both true f g = f refl
-by-both false f g = g refl
 
 -- a decision that is told
 module _ {y : Reply Numbers} {i u : ℕ} {r : ℤ} {i' u' : ℕ} (d : Settled y i u r i' u') where
@@ -37,13 +32,11 @@ module _ {y : Reply Numbers} {i u : ℕ} {r : ℤ} {i' u' : ℕ} (d : Settled y 
 
 module _ (t n c : ℕ) (w : Bool) (f : t < c) (g : n ≤ c) where
   idle : (m : ℕ) → (w ≡ true → n ≡ m) → sane t n c w m ≡ true
-  idle m h =
-      let s = is-within c t n (record { idx = f; used = g }) in
-      by-both w (λ e. rw (s, e, eq-eqb n m (h e))) (λ e. rw (s, e))
+  idle m h = is-sane t n c w m (record { idx = f; used = g }) h
 
   module _ (k : Bool) (i u : ℕ) (r : ℤ) (i' u' : ℕ) where
     -- nobody waits unless the queue is empty
-    pub put-decide : (w ≡ true → n ≡ 0) → Settled (putDecision t n c w k) i u r i' u' → PutDecide t n c w k i u r i' u'
+    pub put-decide : (w ≡ true → n ≡ 0) → PutDecided t n c w k i u r i' u' → PutDecide t n c w k i u r i' u'
     put-decide h d =
         let s = idle 0 h in
         let v = next-is t c f in
@@ -56,7 +49,7 @@ module _ (t n c : ℕ) (w : Bool) (f : t < c) (g : n ≤ c) where
         }
 
     -- nobody waits unless it is full
-    pub get-decide : (w ≡ true → n ≡ c) → Settled (getDecision t n c w k) i u r i' u' → GetDecide t n c w k i u r i' u'
+    pub get-decide : (w ≡ true → n ≡ c) → GetDecided t n c w k i u r i' u' → GetDecide t n c w k i u r i' u'
     get-decide h d =
         let s = idle c h in
         let v = next-is t c f in
@@ -70,7 +63,7 @@ module _ (t n c : ℕ) (w : Bool) (f : t < c) (g : n ≤ c) where
         }
 
   module _ (i u : ℕ) (r : ℤ) (i' u' : ℕ) where
-    pub put-front-decide : Settled (putFrontDecision t n c) i u r i' u' → PutFrontDecide t n c i u r i' u'
+    pub put-front-decide : PutFrontDecided t n c i u r i' u' → PutFrontDecide t n c i u r i' u'
     put-front-decide d =
         let s = is-within c t n (record { idx = f; used = g }) in
         let v = prev-is t c f in
@@ -80,7 +73,7 @@ module _ (t n c : ℕ) (w : Bool) (f : t < c) (g : n ≤ c) where
           full = λ x. kept d (lead-refuses t n c s (omega arith));
         }
 
-  pub peek-at-decide : (i x : ℕ) (r : ℤ) (x' : ℕ) → Decided (peekDecision t n c i) x r x' → PeekAtDecide t n c i x r x'
+  pub peek-at-decide : (i x : ℕ) (r : ℤ) (x' : ℕ) → PeekAtDecided t n c i x r x' → PeekAtDecide t n c i x r x'
   peek-at-decide i x r x' d =
       let s = is-within c t n (record { idx = f; used = g }) in
       let found : i < n → (r ≡ ok) × (x' ≡ wrap (t + i) c) = λ v. decided (peek-finds t n c i (wrap (t + i) c) s v refl) d in

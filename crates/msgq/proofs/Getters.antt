@@ -1,7 +1,7 @@
 -- A get keeps the line, with readers and writers that wait. Assumes nothing.
-use mathlib.Core.Path.{_≡_, refl, sym, ap, subst, _∙_}
+use mathlib.Core.Path.{_≡_, refl, sym, ap, _∙_}
 use mathlib.Core.Bool.{Bool, true, false}
-use mathlib.Core.List.{List, [], _∷_, _++_}
+use mathlib.Core.List.{List, [], _∷_}
 use Prim.Native.Nat.{ℕ, _+_, _<_}
 use native.Mathlib.Omega.{arith}
 use borrow.Author.Tests.{ltb-true, ltb-false, eq-eqb}
@@ -13,7 +13,7 @@ use Rattle.ring_buf.specs.Ring.{wrap, append, leave}
 use Rattle.msgq.specs.Msgq.{Msgq, having, max, used, readIdx}
 use Rattle.msgq.specs.Post.{sane, getDecision}
 use Rattle.msgq.specs.History.{getting, gives}
-use Rattle.msgq.specs.HandOver.{Waited, decision, becomes, stored, read, Fair}
+use Rattle.msgq.specs.HandOver.{Waited, decision, stored, read, Fair}
 use Rattle.msgq.proofs.Decisions.{get-refuses, get-pends, get-wakes, get-reads}
 use Rattle.msgq.proofs.Calls.{stores, reads}
 use Rattle.msgq.proofs.Lines.{line-stays, line-read, line-refill}

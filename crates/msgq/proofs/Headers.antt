@@ -1,11 +1,11 @@
 -- A queue's header and buffer: what is tested, and what then holds. Assumes nothing.
-use mathlib.Core.Path.{_≡_, sym, _∙_}
+use mathlib.Core.Path.{_≡_, refl, sym, _∙_}
 use mathlib.Core.Bool.{Bool, true, false, cond, not}
 use mathlib.Core.List.{List}
 use Prim.Native.Nat.{ℕ, _*_, _≤_, _<_}
 use native.Mathlib.Omega.{arith}
 use native.Mathlib.Nat.{mul-le-mul}
-use borrow.Author.Tests.{lt-ltb, le-ltb, lt-leb, le-leb, leb-true, ltb-true, eqb-true, not-true, not-false}
+use borrow.Author.Tests.{lt-ltb, le-ltb, lt-leb, le-leb, leb-true, ltb-true, eqb-true, eq-eqb, not-true, not-false}
 use lib.Dec.{ltb, leb, eqb}
 use lib.ListN.{length, getD}
 use Rattle.seq.proofs.Order.{both-true}
@@ -19,6 +19,10 @@ was-true {r} e f = sym e ∙ not-false r f
 pub was-false : {r t : Bool} → r ≡ t → not r ≡ true → t ≡ false
 was-false {r} e f = sym e ∙ not-true r f
 
+pub by-both : {P : Type 0} (w : Bool) → (w ≡ true → P) → (w ≡ false → P) → P
+by-both true f g = f refl
+by-both false f g = g refl
+
 -- ---- numbers
 
 pub record Within (c i n : ℕ) : Type 0 where
@@ -31,8 +35,19 @@ within c i n e = let x = both-true (ltb i c) (leb n c) e in record { idx = ltb-t
 pub is-within : (c i n : ℕ) → Within c i n → numbers c i n ≡ true
 is-within c i n w = rw (lt-ltb i c (w .idx), le-leb n c (w .used))
 
-pub sane-within : (i n c : ℕ) (w : Bool) (m : ℕ) → sane i n c w m ≡ true → Within c i n
-sane-within i n c w m e = within c i n (both-true (numbers c i n) (cond w (eqb n m) true) e .0)
+-- and somebody waits only with m messages
+module _ (i n c : ℕ) (w : Bool) (m : ℕ) where
+  pub sane-within : sane i n c w m ≡ true → Within c i n
+  sane-within e = within c i n (both-true (numbers c i n) (cond w (eqb n m) true) e .0)
+
+  pub is-sane : Within c i n → (w ≡ true → n ≡ m) → sane i n c w m ≡ true
+  is-sane x f = by-both w (λ e. rw (is-within c i n x, e, eq-eqb n m (f e))) (λ e. rw (is-within c i n x, e))
+
+  pub insane : (Within c i n → (w ≡ true → n ≡ m) → ⊥) → sane i n c w m ≡ false
+  insane k =
+      by-both (sane i n c w m)
+      (λ e. absurd (k (sane-within e) (λ f. eqb-true n m (rw f at (both-true (numbers c i n) (cond w (eqb n m) true) e .1)))))
+      (λ e. e)
 
 -- ---- room
 

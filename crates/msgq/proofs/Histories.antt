@@ -11,14 +11,13 @@ use lib.IntN.{ℤ, pos, negsuc}
 use Rattle.seq.specs.List.{All}
 use Rattle.seq.proofs.Order.{clash}
 use Rattle.thread.specs.Code.{ok}
-use Rattle.store.specs.Store.{Started}
 use Rattle.store.specs.History.{Step, Ran, fresh, ran, Made}
 use Rattle.seq.proofs.Order.{both-true}
 use Rattle.store.proofs.Histories.{from-start, allowed}
 use Rattle.ring_buf.proofs.Rings.{wrap-below, length-turn}
 use Rattle.msgq.specs.Messages.{slots}
 use Rattle.msgq.specs.Msgq.{Msgq}
-use Rattle.msgq.specs.Post.{room, messages, new, may}
+use Rattle.msgq.specs.Post.{Starts, room, messages, new}
 use Rattle.msgq.specs.History.{Call, putting, puttingFront, getting, peeking, purging, does, gives, line, sent, simple, Good, Promise}
 use Rattle.msgq.proofs.Slots.{length-slots}
 use Rattle.msgq.proofs.Steps.{Holds, step, holds-next, refused-stays}
@@ -61,8 +60,8 @@ module _ (c z : ℕ) (b : List ℕ) (f : 0 < c) where
       record { good = h .good; order = h .order; fifo = λ a. h .order ∙ all-sent ss a; refused = λ k n e. refused-stays q n k e }
 
 -- the same of a queue in memory, after an init that is answered 0
-pub from-init : (c z : ℕ) {h b h₀ b₀ : List ℕ} → Started messages (may z c b) (new z c b) h b ok h₀ b₀ → {ss : List (Step Call)} {h' b' : List ℕ}
-    → Made messages does gives h₀ b₀ ss h' b' → (messages .formed h' b' ≡ true) × Promise c z ss (messages .object h' b')
+pub from-init : (c z : ℕ) {h b h₀ : List ℕ} → Starts z c h b ok h₀ → {ss : List (Step Call)} {h' b' : List ℕ} → Made messages does gives h₀ b ss h' b'
+    → (messages .formed h' b' ≡ true) × Promise c z ss (messages .object h' b')
 from-init c z {b = b} s x =
     let a = from-start messages does gives s x in
     (a .0, promised c z b (ltb-true 0 c (both-true (ltb 0 c) (room z c b) (allowed s) .0)) (a .1))

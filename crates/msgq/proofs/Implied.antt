@@ -12,11 +12,11 @@ use lib.IntN.{ℤ}
 use lib.ListN.{length, length-append, length-drop}
 use Rattle.seq.proofs.Order.{cond-same}
 use Rattle.thread.specs.Code.{ok, einval}
-use Rattle.store.specs.Store.{Reply, answer, left, Started}
+use Rattle.store.specs.Store.{Reply, answer, left}
 use Rattle.ring_buf.specs.Ring.{wrap, append, lead, leave}
 use Rattle.ring_buf.proofs.Rings.{by-lt, wrap-low, wrap-high}
 use Rattle.msgq.specs.Msgq.{Msgq, having, max, used, readIdx, writeIdx, put, putFront, get, peek, purge}
-use Rattle.msgq.specs.Post.{messages, new, may}
+use Rattle.msgq.specs.Post.{Starts, may}
 use Rattle.msgq.specs.History.{Good}
 use Rattle.msgq.specs.Upstream.{nextIdx, prevIdx, InvOf, PutDone, Put, FrontDone, PutFront, GetDone, Get, PeekAt, Purge}
 use Rattle.msgq.proofs.Calls.{put-yes, put-no, front-yes, front-no, get-yes, get-no, write-next, write-led, write-left}
@@ -132,9 +132,8 @@ module _ (c z : ℕ) (q : Msgq) (some : 0 < z) (g : Good c z q) where
       }
 
 -- a header of fewer than four words, or too little memory for the messages
-pub init-refuses : (z c : ℕ) (h b : List ℕ) (r : ℤ) (h' b' : List ℕ) → (length h < 4) ⊎ (may z c b ≡ false)
-    → Started messages (may z c b) (new z c b) h b r h' b' → (r ≡ einval) × (h' ≡ h) × (b' ≡ b)
-init-refuses z c h b r h' b' k s = let e = refused k in (e, s .kept 21 e .0, s .kept 21 e .1)
+pub init-refuses : (z c : ℕ) (h b : List ℕ) (r : ℤ) (h' : List ℕ) → (length h < 4) ⊎ (may z c b ≡ false) → Starts z c h b r h' → (r ≡ einval) × (h' ≡ h)
+init-refuses z c h b r h' k s = let e = refused k in (e, s .kept 21 e .0)
   where
     refused : (length h < 4) ⊎ (may z c b ≡ false) → r ≡ einval
     refused (inl f) = s .code ∙ rw (lt-leb 4 (length h) f)

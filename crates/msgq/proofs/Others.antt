@@ -9,11 +9,11 @@ use borrow.Author.Tests.{lt-ltb, le-leb}
 use lib.IntN.{ℤ, pos}
 use lib.ListN.{length, getD}
 use Rattle.thread.specs.Code.{ok, einval}
-use Rattle.store.specs.Store.{looks, Started}
+use Rattle.store.specs.Store.{looks}
 use Rattle.store.proofs.Laws.{any-some, any-none, looks-is}
 use Rattle.ring_buf.proofs.Rings.{by-lt, wrap-low}
 use Rattle.msgq.specs.Msgq.{Msgq, max, used, readIdx, writeIdx, numFree, numUsed, msgSize, maxMsgs, readAt, writeAt, full, empty}
-use Rattle.msgq.specs.Post.{sound, held, messages, new, may}
+use Rattle.msgq.specs.Post.{Starts, CountsFree, CountsUsed, GetsMsgSize, GetsMaxMsgs, SaysFull, SaysEmpty, GetsReadIdx, GetsWriteIdx, sound, held, messages, may}
 use Rattle.msgq.specs.History.{Good}
 use Rattle.msgq.specs.Upstream.{Inv, Housed, Init, NumFree, NumUsed, MsgSize, MaxMsgs, IsFull, IsEmpty, ReadIdx, WriteIdx}
 use Rattle.msgq.proofs.Headers.{is-roomy, from-sound}
@@ -33,37 +33,37 @@ module _ (h b : List ℕ) (w : ℕ) (k : Housed h b) (i : Inv (getD h 3 0) (getD
     asked : (f : Msgq → ℤ) → r ≡ looks messages f h b → r ≡ f Q
     asked f e = e ∙ looks-is messages h b f right
 
-    pub msgq-num-free : r ≡ looks messages numFree h b → NumFree Q r
+    pub msgq-num-free : CountsFree h b r → NumFree Q r
     msgq-num-free e = (asked numFree e ∙ ap pos (omega (arith, G .slots, G .max)), omega arith)
 
-    pub msgq-num-used : r ≡ looks messages numUsed h b → NumUsed Q r
+    pub msgq-num-used : CountsUsed h b r → NumUsed Q r
     msgq-num-used e = (asked numUsed e, omega (arith, G .slots, G .max))
 
-    pub msgq-msg-size : r ≡ looks messages msgSize h b → MsgSize Q r
+    pub msgq-msg-size : GetsMsgSize h b r → MsgSize Q r
     msgq-msg-size e = (asked msgSize e, i .some-bytes)
 
-    pub msgq-max-msgs : r ≡ looks messages maxMsgs h b → MaxMsgs Q r
+    pub msgq-max-msgs : GetsMaxMsgs h b r → MaxMsgs Q r
     msgq-max-msgs e = (asked maxMsgs e, i .some-room)
 
-    pub msgq-read-idx : r ≡ looks messages readAt h b → ReadIdx Q r
+    pub msgq-read-idx : GetsReadIdx h b r → ReadIdx Q r
     msgq-read-idx e = asked readAt e
 
-    pub msgq-write-idx : r ≡ looks messages writeAt h b → WriteIdx Q r
+    pub msgq-write-idx : GetsWriteIdx h b r → WriteIdx Q r
     msgq-write-idx e = asked writeAt e
 
-    pub msgq-is-full : r ≡ looks messages full h b → IsFull Q r
+    pub msgq-is-full : SaysFull h b r → IsFull Q r
     msgq-is-full e =
         by-lt 0 (length (Q .ring .spare))
         (λ f. inr (asked full e ∙ rw (any-some (Q .ring .spare) f), λ x. absurd (omega (arith, G .slots, G .max))))
         (λ f. inl (asked full e ∙ rw (any-none (Q .ring .spare) (omega arith)), omega (arith, G .slots, G .max)))
 
-    pub msgq-is-empty : r ≡ looks messages empty h b → IsEmpty Q r
+    pub msgq-is-empty : SaysEmpty h b r → IsEmpty Q r
     msgq-is-empty e =
         by-lt 0 (used Q) (λ f. inr (asked empty e ∙ rw (any-some (Q .ring .held) f), λ x. absurd (omega arith)))
         (λ f. inl (asked empty e ∙ rw (any-none (Q .ring .held) (omega arith)), omega arith))
 
 -- init
-module _ (size c : ℕ) (h b : List ℕ) (r : ℤ) (h' : List ℕ) (k : 4 ≤ length h) (s : Started messages (may size c b) (new size c b) h b r h' b) where
+module _ (size c : ℕ) (h b : List ℕ) (r : ℤ) (h' : List ℕ) (k : 4 ≤ length h) (s : Starts size c h b r h') where
   answered : r ≡ cond (may size c b) ok einval
   answered = s .code ∙ rw (le-leb 4 (length h) k)
 

@@ -7,11 +7,11 @@ use native.Mathlib.Omega.{arith}
 use borrow.Author.Tests.{lt-ltb, le-ltb}
 use lib.ListN.{length, drop, getD, set}
 use Rattle.thread.specs.Code.{ok, einval}
-use Rattle.store.specs.Store.{Becomes, Started}
+use Rattle.store.specs.Store.{Becomes}
 use Rattle.store.proofs.Laws.{start-short, start-bad, start-made}
 use Rattle.ring_buf.specs.Ring.{Ring, ring}
 use Rattle.msgq.specs.Messages.{slots}
-use Rattle.msgq.specs.Post.{room, messages, new, may}
+use Rattle.msgq.specs.Post.{Starts, room, messages}
 use Rattle.msgq.proofs.Headers.{Room, roomy, is-sound}
 
 -- the four words of h' are c, t, n and z, and behind them it is h
@@ -69,17 +69,17 @@ becomes h b h' b' c t n z k w f g room l d o =
 
 -- a new queue
 module _ (h b : List ℕ) (z c : ℕ) where
-  pub init-short : length h < 4 → Started messages (may z c b) (new z c b) h b einval h b
+  pub init-short : length h < 4 → Starts z c h b einval h
   init-short f = start-short f
 
   module _ (k : 4 ≤ length h) where
-    pub init-none : c ≡ 0 → Started messages (may z c b) (new z c b) h b einval h b
+    pub init-none : c ≡ 0 → Starts z c h b einval h
     init-none e = start-bad k (rw (le-ltb 0 c (omega arith)))
 
-    pub init-bad : 0 < c → room z c b ≡ false → Started messages (may z c b) (new z c b) h b einval h b
+    pub init-bad : 0 < c → room z c b ≡ false → Starts z c h b einval h
     init-bad f e = start-bad k (rw (lt-ltb 0 c f) e)
 
-    pub init-made : 0 < c → room z c b ≡ true → Started messages (may z c b) (new z c b) h b ok (set (set (set (set h 0 c) 1 0) 2 0) 3 z) b
+    pub init-made : 0 < c → room z c b ≡ true → Starts z c h b ok (set (set (set (set h 0 c) 1 0) 2 0) 3 z)
     init-made f e =
         start-made k (rw (lt-ltb 0 c f) e)
         (becomes h b (set (set (set (set h 0 c) 1 0) 2 0) 3 z) b c 0 0 z k (set-all h k c z) f (omega arith) (roomy z c b e) refl refl refl)

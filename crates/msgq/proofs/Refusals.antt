@@ -8,14 +8,14 @@ use native.Mathlib.Omega.{arith}
 use borrow.Author.Tests.{le-ltb, lt-leb, ne-eqb}
 use lib.Dec.{eqb, ltb}
 use lib.IntN.{ℤ}
-use lib.ListN.{getD}
+use lib.ListN.{length, getD}
 use Rattle.seq.proofs.Order.{cond-same}
 use Rattle.thread.specs.Code.{einval}
-use Rattle.store.specs.Store.{Reply, refuse, answer, Decided, Did, looks, handed, Filled}
+use Rattle.store.specs.Store.{Reply, refuse, Did, looks}
 use Rattle.store.proofs.Laws.{kept-bad, kept-no, looks-bad, declined}
 use Rattle.ring_buf.specs.Bytes.{numbers}
-use Rattle.msgq.specs.Msgq.{Msgq, puts, gets, given, peek, seen}
-use Rattle.msgq.specs.Post.{sound, messages, putDecision, getDecision, putFrontDecision, peekDecision, Settled}
+use Rattle.msgq.specs.Msgq.{Msgq, puts, gets, given}
+use Rattle.msgq.specs.Post.{PutDecided, GetDecided, PutFrontDecided, PeekAtDecided, PeeksAt, sound, messages}
 use Rattle.msgq.specs.History.{Call, does}
 use Rattle.msgq.proofs.Decisions.{peek-insane}
 use Rattle.msgq.proofs.Deciding.{kept}
@@ -31,12 +31,12 @@ module _ (h b : List ℕ) {r : ℤ} {h' b' : List ℕ} where
   size-refuses n f e g d = kept-no messages (λ (q : Msgq). given (eqb n (q .size)) (f q)) h b d e (rw (ne-eqb n (getD h 3 0) g))
 
 -- a look with a place of another size: told -22, and the place stays
-module _ (h b : List ℕ) (n i : ℕ) (f : sound h b ≡ true) (e : n ≡ getD h 3 0 → ⊥) where
-  pub peek-refuses : (r : ℤ) → r ≡ looks messages (λ (q : Msgq). answer (peek n i q)) h b → r ≡ einval
-  peek-refuses r d = d ∙ rw (f, ne-eqb n (getD h 3 0) e)
+module _ (h b o : List ℕ) (i : ℕ) (r : ℤ) (o' : List ℕ) (f : sound h b ≡ true) (e : length o ≡ getD h 3 0 → ⊥) (d : PeeksAt i h b o r o') where
+  pub peek-refuses : r ≡ einval
+  peek-refuses = d .0 ∙ rw (f, ne-eqb (length o) (getD h 3 0) e)
 
-  pub place-stays : (o o' : List ℕ) → Filled (handed messages (seen n i) h b) o o' → o' ≡ o
-  place-stays o o' d = d ∙ rw (f, ne-eqb n (getD h 3 0) e)
+  pub place-stays : o' ≡ o
+  place-stays = d .1 ∙ rw (f, ne-eqb (length o) (getD h 3 0) e)
 
 pub look-refuses : (h b : List ℕ) (r : ℤ) (f : Msgq → ℤ) → sound h b ≡ false → r ≡ looks messages f h b → r ≡ einval
 look-refuses h b r f e d = d ∙ looks-bad messages h b f e
@@ -52,29 +52,29 @@ Stays i u r i' u' = (r ≡ einval) × ((i' ≡ i) × (u' ≡ u))
 
 module _ (t n c i u : ℕ) (r : ℤ) (i' u' : ℕ) where
   module _ (e : numbers c t n ≡ false) where
-    pub put-decide-refuses : (w k : Bool) → Settled (putDecision t n c w k) i u r i' u' → Stays i u r i' u'
+    pub put-decide-refuses : (w k : Bool) → PutDecided t n c w k i u r i' u' → Stays i u r i' u'
     put-decide-refuses w k d = kept d (rw e)
 
-    pub get-decide-refuses : (w k : Bool) → Settled (getDecision t n c w k) i u r i' u' → Stays i u r i' u'
+    pub get-decide-refuses : (w k : Bool) → GetDecided t n c w k i u r i' u' → Stays i u r i' u'
     get-decide-refuses w k d = kept d (rw e)
 
-    pub front-decide-refuses : Settled (putFrontDecision t n c) i u r i' u' → Stays i u r i' u'
+    pub front-decide-refuses : PutFrontDecided t n c i u r i' u' → Stays i u r i' u'
     front-decide-refuses d = kept d (rw e)
 
   -- a reader that waits while there are messages, a writer that waits while there is room
-  pub reader-refuses : (k : Bool) → 0 < n → Settled (putDecision t n c true k) i u r i' u' → Stays i u r i' u'
+  pub reader-refuses : (k : Bool) → 0 < n → PutDecided t n c true k i u r i' u' → Stays i u r i' u'
   reader-refuses k f d = kept d (go (numbers c t n))
     where
       go : (b : Bool) → given (cond b (eqb n 0) false) (puts t n c true k) ≡ refuse einval
       go true = rw (ne-eqb n 0 (λ v. absurd (omega arith)))
       go false = refl
 
-  pub writer-refuses : (k : Bool) → n < c → Settled (getDecision t n c true k) i u r i' u' → Stays i u r i' u'
+  pub writer-refuses : (k : Bool) → n < c → GetDecided t n c true k i u r i' u' → Stays i u r i' u'
   writer-refuses k f d = kept d (go (numbers c t n))
     where
       go : (b : Bool) → given (cond b (eqb n c) false) (gets t n c true k) ≡ refuse einval
       go true = rw (ne-eqb n c (λ v. absurd (omega arith)))
       go false = refl
 
-pub peek-decide-refuses : (t n c j i : ℕ) (r : ℤ) (i' : ℕ) → numbers c t n ≡ false → Decided (peekDecision t n c j) i r i' → (r ≡ einval) × (i' ≡ i)
+pub peek-decide-refuses : (t n c j i : ℕ) (r : ℤ) (i' : ℕ) → numbers c t n ≡ false → PeekAtDecided t n c j i r i' → (r ≡ einval) × (i' ≡ i)
 peek-decide-refuses t n c j i r i' e d = declined (peek-insane t n c j e) d

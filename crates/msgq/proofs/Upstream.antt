@@ -8,12 +8,12 @@ use borrow.Author.Tests.{eq-eqb}
 use lib.IntN.{ℤ}
 use lib.ListN.{length, getD, length-append, drop-of-length-le}
 use lib.Seq.{getD-append-seam}
-use Rattle.store.specs.Store.{Reply, answer, Did, looks, handed, Filled, left}
+use Rattle.store.specs.Store.{Reply, answer, Did, handed, Filled, left}
 use Rattle.store.proofs.Laws.{answers, looks-is}
 use Rattle.store.proofs.Histories.{done}
 use Rattle.ring_buf.specs.Ring.{wrap, append, lead}
 use Rattle.msgq.specs.Msgq.{Msgq, having, max, used, readIdx, writeIdx, put, putFront, get, peek, seen, purge}
-use Rattle.msgq.specs.Post.{sound, held, messages}
+use Rattle.msgq.specs.Post.{Puts, PutsFront, Gets, PeeksAt, Purges, sound, held, messages}
 use Rattle.msgq.specs.History.{Good}
 use Rattle.msgq.specs.Upstream.{Inv, Housed, Put, PutFront, Get, InSlot, PeekAt, Purge}
 use Rattle.msgq.proofs.Calls.{stores, front-yes}
@@ -35,28 +35,28 @@ module _ (h b : List ℕ) (w : ℕ) (k : Housed h b) (i : Inv (getD h 3 0) (getD
   G : Good (getD h 0 0) (getD h 3 0) Q
   G = memory-good h b right
 
-  module _ (r : ℤ) (h' b' : List ℕ) where
+  module _ (r : ℤ) (h' : List ℕ) where
     -- what holds of the call holds of the memory
-    holds : (f : Msgq → Reply Msgq) (R : ℤ → Msgq → Type 0) → Did messages f h b r h' b' → R (answer (f Q)) (left (f Q) Q) → R r (held h' b')
+    holds : (f : Msgq → Reply Msgq) (R : ℤ → Msgq → Type 0) {b' : List ℕ} → Did messages f h b r h' b' → R (answer (f Q)) (left (f Q) Q) → R r (held h' b')
     holds f R d a = subst (R r) (sym (done messages f h b right d .1)) (subst (λ (z : ℤ). R z (left (f Q) Q)) (sym (answers messages f h b d right)) a)
 
-    pub msgq-put : (m : List ℕ) → length m ≡ getD h 3 0 → Did messages (put m) h b r h' b' → Put Q r (held h' b')
-    msgq-put m e d = holds (put m) (Put Q) d (put-does (getD h 0 0) (getD h 3 0) Q (i .some-bytes) G m e)
+    pub msgq-put : (m b' : List ℕ) → length m ≡ getD h 3 0 → Puts m h b r h' b' → Put Q r (held h' b')
+    msgq-put m b' e d = holds (put m) (Put Q) d (put-does (getD h 0 0) (getD h 3 0) Q (i .some-bytes) G m e)
 
-    pub msgq-put-front : (m : List ℕ) → length m ≡ getD h 3 0 → Did messages (putFront m) h b r h' b' → PutFront Q r (held h' b')
-    msgq-put-front m e d = holds (putFront m) (PutFront Q) d (front-does (getD h 0 0) (getD h 3 0) Q (i .some-bytes) G m e)
+    pub msgq-put-front : (m b' : List ℕ) → length m ≡ getD h 3 0 → PutsFront m h b r h' b' → PutFront Q r (held h' b')
+    msgq-put-front m b' e d = holds (putFront m) (PutFront Q) d (front-does (getD h 0 0) (getD h 3 0) Q (i .some-bytes) G m e)
 
-    pub msgq-get : (n : ℕ) → n ≡ getD h 3 0 → Did messages (get n) h b r h' b' → Get Q r (held h' b')
-    msgq-get n e d =
-        holds (get n) (Get Q) d
+    pub msgq-get : (o o' : List ℕ) → length o ≡ getD h 3 0 → Gets h b o r h' o' → Get Q r (held h' b)
+    msgq-get o o' e (d, _) =
+        holds (get (length o)) (Get Q) d
         (subst (λ (x : ℕ). Get Q (answer (get x Q)) (left (get x Q) Q)) (sym e) (get-does (getD h 0 0) (getD h 3 0) Q (i .some-bytes) G))
 
-    pub msgq-purge : Did messages purge h b r h' b' → Purge Q r (held h' b')
+    pub msgq-purge : Purges h b r h' → Purge Q r (held h' b)
     msgq-purge d = holds purge (Purge Q) d (purge-does (getD h 0 0) (getD h 3 0) Q (i .some-bytes) G)
 
     -- the slots
-    pub put-slot : (m : List ℕ) → length m ≡ getD h 3 0 → used Q < max Q → Did messages (put m) h b r h' b' → InSlot (writeIdx Q) m (held h' b') b'
-    put-slot m e f d =
+    pub put-slot : (m b' : List ℕ) → length m ≡ getD h 3 0 → used Q < max Q → Puts m h b r h' b' → InSlot (writeIdx Q) m (held h' b') b'
+    put-slot m b' e f d =
         let x : held h' b' ≡ having (append (m ∷ []) (Q .ring)) Q = done messages (put m) h b right d .1 ∙ stores (getD h 0 0) (getD h 3 0) Q G m e f in
         let n : used (held h' b') ≡ used Q + 1 = ap used x ∙ length-append (Q .ring .held) (m ∷ []) in
         let y : getD (held h' b' .ring .held) (used Q) [] ≡ m = ap (λ (q : Msgq). getD (q .ring .held) (used Q) []) x ∙ getD-append-seam (Q .ring .held) m [] [] in
@@ -65,8 +65,8 @@ module _ (h b : List ℕ) (w : ℕ) (k : Housed h b) (i : Inv (getD h 3 0) (getD
         (subst (λ (t : List ℕ). InSlot (wrap (getD h' 1 0 + used Q) (getD h' 0 0)) t (held h' b') b') y
         (slot-of h' b' (done messages (put m) h b right d .0) (used Q) (omega arith)))
 
-    pub front-slot : (m : List ℕ) → length m ≡ getD h 3 0 → used Q < max Q → Did messages (putFront m) h b r h' b' → InSlot (readIdx (held h' b')) m (held h' b') b'
-    front-slot m e f d =
+    pub front-slot : (m b' : List ℕ) → length m ≡ getD h 3 0 → used Q < max Q → PutsFront m h b r h' b' → InSlot (readIdx (held h' b')) m (held h' b') b'
+    front-slot m b' e f d =
         let x : held h' b' ≡ having (lead m (Q .ring)) Q =
         done messages (putFront m) h b right d .1 ∙ ap (λ (y : Reply Msgq). left y Q) (front-yes (getD h 0 0) (getD h 3 0) Q G m e f) in
         let n : used (held h' b') ≡ suc (used Q) = ap used x in
@@ -80,14 +80,14 @@ module _ (h b : List ℕ) (w : ℕ) (k : Housed h b) (i : Inv (getD h 3 0) (getD
       let x : handed messages (seen (length o) n) h b ≡ m = rw (right, eq-eqb (length o) (getD h 3 0) e) in
       whole m o o' (all-at (λ (t : List ℕ). length t ≡ getD h 3 0) (Q .ring .held) n [] (G .messages) f ∙ sym e) (subst (λ (t : List ℕ). Filled t o o') x d)
 
-  pub get-slot : (o o' : List ℕ) → length o ≡ getD h 3 0 → 0 < used Q → Filled (handed messages (seen (length o) 0) h b) o o' → InSlot (readIdx Q) o' Q b
-  get-slot o o' e f d = subst (λ (t : List ℕ). InSlot (readIdx Q) t Q b) (sym (handed-out 0 o o' e f d)) (first-slot h b right f)
+  pub get-slot : (o : List ℕ) (r : ℤ) (h' o' : List ℕ) → length o ≡ getD h 3 0 → 0 < used Q → Gets h b o r h' o' → InSlot (readIdx Q) o' Q b
+  get-slot o r h' o' e f (_, d) = subst (λ (t : List ℕ). InSlot (readIdx Q) t Q b) (sym (handed-out 0 o o' e f d)) (first-slot h b right f)
 
-  pub peek-slot : (n : ℕ) (o o' : List ℕ) → length o ≡ getD h 3 0 → n < used Q → Filled (handed messages (seen (length o) n) h b) o o'
+  pub peek-slot : (n : ℕ) (o : List ℕ) (r : ℤ) (o' : List ℕ) → length o ≡ getD h 3 0 → n < used Q → PeeksAt n h b o r o'
       → InSlot (wrap (readIdx Q + n) (max Q)) o' Q b
-  peek-slot n o o' e f d = subst (λ (t : List ℕ). InSlot (wrap (readIdx Q + n) (max Q)) t Q b) (sym (handed-out n o o' e f d)) (slot-of h b right n f)
+  peek-slot n o r o' e f (_, d) = subst (λ (t : List ℕ). InSlot (wrap (readIdx Q + n) (max Q)) t Q b) (sym (handed-out n o o' e f d)) (slot-of h b right n f)
 
-  pub msgq-peek-at : (n : ℕ) (o : List ℕ) (r : ℤ) → length o ≡ getD h 3 0 → r ≡ looks messages (λ (q : Msgq). answer (peek (length o) n q)) h b → PeekAt n Q r
-  msgq-peek-at n o r e d =
+  pub msgq-peek-at : (n : ℕ) (o : List ℕ) (r : ℤ) (o' : List ℕ) → length o ≡ getD h 3 0 → PeeksAt n h b o r o' → PeekAt n Q r
+  msgq-peek-at n o r o' e (d, _) =
       subst (PeekAt n Q) (sym (d ∙ looks-is messages h b (λ (q : Msgq). answer (peek (length o) n q)) right ∙ ap (λ (x : ℕ). answer (peek x n Q)) e))
       (peek-does (getD h 0 0) (getD h 3 0) Q (i .some-bytes) G n)

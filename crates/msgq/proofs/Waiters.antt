@@ -9,7 +9,6 @@ use lib.Dec.{eqb, ltb}
 use lib.IntN.{ℤ, pos, negsuc}
 use lib.ListN.{length, length-append}
 use lib.Seq.{drop-length}
-use Rattle.thread.specs.Code.{einval}
 use Rattle.store.specs.Store.{Reply, accept, refuse, answer, left}
 use Rattle.ring_buf.specs.Ring.{wrap, lead}
 use Rattle.msgq.specs.Msgq.{Msgq, Numbers, given, having, max, used, readIdx, writeIdx}

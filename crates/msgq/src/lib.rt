@@ -8,11 +8,9 @@ ghost use mathlib.Core.Bool.{true};
 ghost use Prim.Native.Nat.{_+_, _*_, _<_, _≤_};
 ghost use lib.ListN.{length, take, drop};
 ghost use lib.Seq.{paste};
-ghost use Rattle.store.specs.Store.{answer, Decided, Did, looks, handed, Filled, Started};
 ghost use Rattle.ring_buf.specs.Ring.{wrap};
 ghost use Rattle.ring_buf.specs.Bytes.{numbers as within};
-ghost use Rattle.msgq.specs.Msgq.{Msgq, put as putBack, putFront, get as getFirst, peek, seen, purge as emptied, numFree, numUsed, msgSize, maxMsgs, readAt, writeAt, full, empty};
-ghost use Rattle.msgq.specs.Post.{room, sound, takes, messages, new, may, sane as fitting, putDecision, getDecision, putFrontDecision, peekDecision, Settled};
+ghost use Rattle.msgq.specs.Post.{PutDecided, GetDecided, PutFrontDecided, PeekAtDecided, Starts, Puts, PutsFront, Gets, PeeksAt, Purges, CountsFree, CountsUsed, GetsMsgSize, GetsMaxMsgs, SaysFull, SaysEmpty, GetsReadIdx, GetsWriteIdx, room, sound, takes};
 
 // What a put is to do: Gale's PutDecision.
 pub const STORE: i32 = 0;
@@ -34,6 +32,14 @@ fn around(t: u32, k: u32, n: u32) -> u32
 {
     let m = n - t;
     if k < m { t + k } else { k - m }
+}
+
+// The slot behind t.
+fn next(t: u32, n: u32) -> u32
+    requires { ⌜ t < n ⌝ }
+    ensures { λ r. ⌜ r ≡ wrap (t + 1) n ⌝ }
+{
+    if t + 1 == n { 0 } else { t + 1 }
 }
 
 // Writes msg to its slot.
@@ -66,19 +72,6 @@ fn numbers(idx: u32, used: u32, max: u32) -> bool
         return false;
     }
     used <= max
-}
-
-// And whether somebody waits only with m messages.
-fn sane(idx: u32, used: u32, max: u32, waits: bool, m: u32) -> bool
-    ensures { λ r. ⌜ r ≡ fitting idx used max waits m ⌝ }
-{
-    if !numbers(idx, used, max) {
-        return false;
-    }
-    if waits {
-        return used == m;
-    }
-    true
 }
 
 // Whether n messages of size bytes fit.
@@ -129,27 +122,33 @@ pub fn put_decide(
     new_write_idx: &mut u32,
     new_used: &mut u32,
 ) -> i32
-    ensures { λ r. ⌜ Settled (putDecision «write_idx» «used_msgs» «max_msgs» «has_waiter» «is_no_wait») (now («new_write_idx» .entry)) (now («new_used» .entry)) r (now («new_write_idx» .exit)) (now («new_used» .exit)) ⌝ }
+    ensures { λ r. ⌜ PutDecided «write_idx» «used_msgs» «max_msgs» «has_waiter» «is_no_wait» (now («new_write_idx» .entry)) (now («new_used» .entry)) r (now («new_write_idx» .exit)) (now («new_used» .exit)) ⌝ }
 {
-    if !sane(write_idx, used_msgs, max_msgs, has_waiter, 0) {
+    if max_msgs <= write_idx {
         return EINVAL;
     }
-    if used_msgs == max_msgs {
-        if is_no_wait {
-            return ENOMSG;
-        }
-        *new_write_idx = write_idx;
-        *new_used = used_msgs;
-        return PEND;
-    }
     if has_waiter {
+        if used_msgs != 0 {
+            return EINVAL;
+        }
         *new_write_idx = write_idx;
         *new_used = used_msgs;
         return WAKE_READER;
     }
-    *new_write_idx = around(write_idx, 1, max_msgs);
-    *new_used = used_msgs + 1;
-    STORE
+    if used_msgs < max_msgs {
+        *new_write_idx = next(write_idx, max_msgs);
+        *new_used = used_msgs + 1;
+        return STORE;
+    }
+    if max_msgs < used_msgs {
+        return EINVAL;
+    }
+    if is_no_wait {
+        return ENOMSG;
+    }
+    *new_write_idx = write_idx;
+    *new_used = used_msgs;
+    PEND
 }
 
 // READ, WAKE_WRITER or PEND; ENOMSG: it is empty; EINVAL, also if a writer waits while there is room.
@@ -162,20 +161,28 @@ pub fn get_decide(
     new_read_idx: &mut u32,
     new_used: &mut u32,
 ) -> i32
-    ensures { λ r. ⌜ Settled (getDecision «read_idx» «used_msgs» «max_msgs» «has_waiter» «is_no_wait») (now («new_read_idx» .entry)) (now («new_used» .entry)) r (now («new_read_idx» .exit)) (now («new_used» .exit)) ⌝ }
+    ensures { λ r. ⌜ GetDecided «read_idx» «used_msgs» «max_msgs» «has_waiter» «is_no_wait» (now («new_read_idx» .entry)) (now («new_used» .entry)) r (now («new_read_idx» .exit)) (now («new_used» .exit)) ⌝ }
 {
-    if !sane(read_idx, used_msgs, max_msgs, has_waiter, max_msgs) {
+    if max_msgs <= read_idx {
         return EINVAL;
     }
-    if used_msgs == 0 {
-        if is_no_wait {
-            return ENOMSG;
+    if used_msgs < max_msgs {
+        if has_waiter {
+            return EINVAL;
         }
-        *new_read_idx = read_idx;
-        *new_used = used_msgs;
-        return PEND;
+        if used_msgs == 0 {
+            if is_no_wait {
+                return ENOMSG;
+            }
+            *new_read_idx = read_idx;
+            *new_used = used_msgs;
+            return PEND;
+        }
     }
-    *new_read_idx = around(read_idx, 1, max_msgs);
+    if max_msgs < used_msgs {
+        return EINVAL;
+    }
+    *new_read_idx = next(read_idx, max_msgs);
     *new_used = used_msgs - 1;
     if has_waiter {
         return WAKE_WRITER;
@@ -191,7 +198,7 @@ pub fn put_front_decide(
     new_read_idx: &mut u32,
     new_used: &mut u32,
 ) -> i32
-    ensures { λ r. ⌜ Settled (putFrontDecision «read_idx» «used_msgs» «max_msgs») (now («new_read_idx» .entry)) (now («new_used» .entry)) r (now («new_read_idx» .exit)) (now («new_used» .exit)) ⌝ }
+    ensures { λ r. ⌜ PutFrontDecided «read_idx» «used_msgs» «max_msgs» (now («new_read_idx» .entry)) (now («new_used» .entry)) r (now («new_read_idx» .exit)) (now («new_used» .exit)) ⌝ }
 {
     if !numbers(read_idx, used_msgs, max_msgs) {
         return EINVAL;
@@ -212,7 +219,7 @@ pub fn peek_at_decide(
     idx: u32,
     slot_idx: &mut u32,
 ) -> i32
-    ensures { λ r. ⌜ Decided (peekDecision «read_idx» «used_msgs» «max_msgs» idx) (now («slot_idx» .entry)) r (now («slot_idx» .exit)) ⌝ }
+    ensures { λ r. ⌜ PeekAtDecided «read_idx» «used_msgs» «max_msgs» idx (now («slot_idx» .entry)) r (now («slot_idx» .exit)) ⌝ }
 {
     if !numbers(read_idx, used_msgs, max_msgs) {
         return EINVAL;
@@ -226,7 +233,7 @@ pub fn peek_at_decide(
 
 // OK; EINVAL: a size or a number of 0, a product above 2^32 - 1 or above the buffer's length.
 pub fn init(h: &mut [u32], b: &[u8], msg_size: u32, max_msgs: u32) -> i32
-    ensures { λ r. ⌜ Started messages (may «msg_size» «max_msgs» (now (b .entry))) (new «msg_size» «max_msgs» (now (b .entry))) (now (h .entry)) (now (b .entry)) r (now (h .exit)) (now (b .entry)) ⌝ }
+    ensures { λ r. ⌜ Starts «msg_size» «max_msgs» (now (h .entry)) (now (b .entry)) r (now (h .exit)) ⌝ }
 {
     if h.len() < 4 {
         return EINVAL;
@@ -246,7 +253,7 @@ pub fn init(h: &mut [u32], b: &[u8], msg_size: u32, max_msgs: u32) -> i32
 
 // OK: the message is behind those that were held; EINVAL, also for a message of another size; ENOMSG: it is full.
 pub fn put(h: &mut [u32], b: &mut [u8], msg: &[u8]) -> i32
-    ensures { λ r. ⌜ Did messages (putBack (now (msg .entry))) (now (h .entry)) (now (b .entry)) r (now (h .exit)) (now (b .exit)) ⌝ }
+    ensures { λ r. ⌜ Puts (now (msg .entry)) (now (h .entry)) (now (b .entry)) r (now (h .exit)) (now (b .exit)) ⌝ }
 {
     if !sized(h, b, msg.len()) {
         return EINVAL;
@@ -263,7 +270,7 @@ pub fn put(h: &mut [u32], b: &mut [u8], msg: &[u8]) -> i32
 
 // OK: the message is before those that were held; EINVAL, also for a message of another size; ENOMSG: it is full.
 pub fn put_front(h: &mut [u32], b: &mut [u8], msg: &[u8]) -> i32
-    ensures { λ r. ⌜ Did messages (putFront (now (msg .entry))) (now (h .entry)) (now (b .entry)) r (now (h .exit)) (now (b .exit)) ⌝ }
+    ensures { λ r. ⌜ PutsFront (now (msg .entry)) (now (h .entry)) (now (b .entry)) r (now (h .exit)) (now (b .exit)) ⌝ }
 {
     if !sized(h, b, msg.len()) {
         return EINVAL;
@@ -282,8 +289,7 @@ pub fn put_front(h: &mut [u32], b: &mut [u8], msg: &[u8]) -> i32
 
 // OK: out is the first message, which is gone; EINVAL, also for an out of another size; ENOMSG: it is empty.
 pub fn get(h: &mut [u32], b: &[u8], out: &mut [u8]) -> i32
-    ensures { λ r. ⌜ Did messages (getFirst (length (now (out .entry)))) (now (h .entry)) (now (b .entry)) r (now (h .exit)) (now (b .entry)) ⌝ }
-    ensures { λ r. ⌜ Filled (handed messages (seen (length (now (out .entry))) 0) (now (h .entry)) (now (b .entry))) (now (out .entry)) (now (out .exit)) ⌝ }
+    ensures { λ r. ⌜ Gets (now (h .entry)) (now (b .entry)) (now (out .entry)) r (now (h .exit)) (now (out .exit)) ⌝ }
 {
     if !sized(h, b, out.len()) {
         return EINVAL;
@@ -294,15 +300,14 @@ pub fn get(h: &mut [u32], b: &[u8], out: &mut [u8]) -> i32
     }
     let t = h[1];
     load(b, seq::wide(t), out);
-    h[1] = around(t, 1, h[0]);
+    h[1] = next(t, h[0]);
     h[2] = used - 1;
     OK
 }
 
 // OK: out is the message at idx, 0 being the first; EINVAL, also for an out of another size; ENOMSG: there are no more than idx.
 pub fn peek_at(h: &[u32], b: &[u8], idx: u32, out: &mut [u8]) -> i32
-    ensures { λ r. ⌜ r ≡ looks messages (λ (q : Msgq). answer (peek (length (now (out .entry))) idx q)) (now (h .entry)) (now (b .entry)) ⌝ }
-    ensures { λ r. ⌜ Filled (handed messages (seen (length (now (out .entry))) idx) (now (h .entry)) (now (b .entry))) (now (out .entry)) (now (out .exit)) ⌝ }
+    ensures { λ r. ⌜ PeeksAt idx (now (h .entry)) (now (b .entry)) (now (out .entry)) r (now (out .exit)) ⌝ }
 {
     if !sized(h, b, out.len()) {
         return EINVAL;
@@ -316,7 +321,7 @@ pub fn peek_at(h: &[u32], b: &[u8], idx: u32, out: &mut [u8]) -> i32
 
 // How many messages there were; it is empty.
 pub fn purge(h: &mut [u32], b: &[u8]) -> i64
-    ensures { λ r. ⌜ Did messages emptied (now (h .entry)) (now (b .entry)) r (now (h .exit)) (now (b .entry)) ⌝ }
+    ensures { λ r. ⌜ Purges (now (h .entry)) (now (b .entry)) r (now (h .exit)) ⌝ }
 {
     if !formed(h, b) {
         return -22;
@@ -328,7 +333,7 @@ pub fn purge(h: &mut [u32], b: &[u8]) -> i64
 }
 
 pub fn num_free_get(h: &[u32], b: &[u8]) -> i64
-    ensures { λ r. ⌜ r ≡ looks messages numFree (now (h .entry)) (now (b .entry)) ⌝ }
+    ensures { λ r. ⌜ CountsFree (now (h .entry)) (now (b .entry)) r ⌝ }
 {
     if !formed(h, b) {
         return -22;
@@ -337,7 +342,7 @@ pub fn num_free_get(h: &[u32], b: &[u8]) -> i64
 }
 
 pub fn num_used_get(h: &[u32], b: &[u8]) -> i64
-    ensures { λ r. ⌜ r ≡ looks messages numUsed (now (h .entry)) (now (b .entry)) ⌝ }
+    ensures { λ r. ⌜ CountsUsed (now (h .entry)) (now (b .entry)) r ⌝ }
 {
     if !formed(h, b) {
         return -22;
@@ -346,7 +351,7 @@ pub fn num_used_get(h: &[u32], b: &[u8]) -> i64
 }
 
 pub fn msg_size_get(h: &[u32], b: &[u8]) -> i64
-    ensures { λ r. ⌜ r ≡ looks messages msgSize (now (h .entry)) (now (b .entry)) ⌝ }
+    ensures { λ r. ⌜ GetsMsgSize (now (h .entry)) (now (b .entry)) r ⌝ }
 {
     if !formed(h, b) {
         return -22;
@@ -355,7 +360,7 @@ pub fn msg_size_get(h: &[u32], b: &[u8]) -> i64
 }
 
 pub fn max_msgs_get(h: &[u32], b: &[u8]) -> i64
-    ensures { λ r. ⌜ r ≡ looks messages maxMsgs (now (h .entry)) (now (b .entry)) ⌝ }
+    ensures { λ r. ⌜ GetsMaxMsgs (now (h .entry)) (now (b .entry)) r ⌝ }
 {
     if !formed(h, b) {
         return -22;
@@ -365,7 +370,7 @@ pub fn max_msgs_get(h: &[u32], b: &[u8]) -> i64
 
 // 1: there is no room; 0.
 pub fn is_full(h: &[u32], b: &[u8]) -> i32
-    ensures { λ r. ⌜ r ≡ looks messages full (now (h .entry)) (now (b .entry)) ⌝ }
+    ensures { λ r. ⌜ SaysFull (now (h .entry)) (now (b .entry)) r ⌝ }
 {
     if !formed(h, b) {
         return EINVAL;
@@ -375,7 +380,7 @@ pub fn is_full(h: &[u32], b: &[u8]) -> i32
 
 // 1: there is no message; 0.
 pub fn is_empty(h: &[u32], b: &[u8]) -> i32
-    ensures { λ r. ⌜ r ≡ looks messages empty (now (h .entry)) (now (b .entry)) ⌝ }
+    ensures { λ r. ⌜ SaysEmpty (now (h .entry)) (now (b .entry)) r ⌝ }
 {
     if !formed(h, b) {
         return EINVAL;
@@ -385,7 +390,7 @@ pub fn is_empty(h: &[u32], b: &[u8]) -> i32
 
 // The slot of the first message.
 pub fn read_idx_get(h: &[u32], b: &[u8]) -> i64
-    ensures { λ r. ⌜ r ≡ looks messages readAt (now (h .entry)) (now (b .entry)) ⌝ }
+    ensures { λ r. ⌜ GetsReadIdx (now (h .entry)) (now (b .entry)) r ⌝ }
 {
     if !formed(h, b) {
         return -22;
@@ -395,7 +400,7 @@ pub fn read_idx_get(h: &[u32], b: &[u8]) -> i64
 
 // The slot to which the next message goes.
 pub fn write_idx_get(h: &[u32], b: &[u8]) -> i64
-    ensures { λ r. ⌜ r ≡ looks messages writeAt (now (h .entry)) (now (b .entry)) ⌝ }
+    ensures { λ r. ⌜ GetsWriteIdx (now (h .entry)) (now (b .entry)) r ⌝ }
 {
     if !formed(h, b) {
         return -22;

@@ -11,6 +11,7 @@ use lib.Signed.{mag}
 use lib.ListN.{length, getD, set}
 use borrow.Author.Tests.{le-leb, lt-leb, lt-ltb, le-ltb, ltb-true, ltb-false, eq-eqb, ne-eqb}
 use Rattle.seq.specs.List.{any}
+use Rattle.seq.proofs.Words.{spell}
 use Rattle.seq.proofs.Order.{clash}
 use Rattle.thread.specs.Code.{ok, eperm, enoent, ebusy, einval, edeadlk, eoverflow}
 use Rattle.thread.specs.Caller.{callerCode}
@@ -85,40 +86,24 @@ module _ (c : ℕ) where
   unlock-one k l i j [] n = rw (lt-ltb 0 c k, eq-eqb i i refl, le-ltb 1 c l)
   unlock-one k l i j (x ∷ q) n = rw (lt-ltb 0 c k, eq-eqb i i refl, le-ltb 1 c l)
 
--- a header shows its four words
-pub record Four (h : List ℕ) : Type 0 where
-  pub flag : ℕ
-  pub owner : ℕ
-  pub count : ℕ
-  pub len : ℕ
-  pub rest : List ℕ
-  pub is : h ≡ flag ∷ owner ∷ count ∷ len ∷ rest
-
-pub four : (h : List ℕ) → 4 ≤ length h → Four h
-four [] k = absurd (omega arith)
-four (a ∷ []) k = absurd (omega arith)
-four (a ∷ b ∷ []) k = absurd (omega arith)
-four (a ∷ b ∷ c ∷ []) k = absurd (omega arith)
-four (a ∷ b ∷ c ∷ d ∷ t) k = record { flag = a; owner = b; count = c; len = d; rest = t; is = refl }
-
 module _ (h : List ℕ) (k : 4 ≤ length h) where
   seized : (i : ℕ) → Header layout h (taken i) (getD h 3 0) (set (set (set h 0 1) 1 i) 2 1)
-  seized i = rw (four h k .is) (record { num = refl; len = refl; beside = refl; long = refl })
+  seized i = rw (spell 4 h k) (record { num = refl; len = refl; beside = refl; long = refl })
 
   counted : (c : ℕ) → Header layout h (counting c (layout .num h)) (getD h 3 0) (set h 2 c)
-  counted c = rw (four h k .is) (record { num = refl; len = refl; beside = refl; long = refl })
+  counted c = rw (spell 4 h k) (record { num = refl; len = refl; beside = refl; long = refl })
 
   freed : Header layout h free (getD h 3 0) (set (set h 0 0) 2 0)
-  freed = rw (four h k .is) (record { num = refl; len = refl; beside = refl; long = refl })
+  freed = rw (spell 4 h k) (record { num = refl; len = refl; beside = refl; long = refl })
 
   fewer : (n : ℕ) → layout .num (set h 3 n) ≡ layout .num h
-  fewer n = rw (four h k .is) refl
+  fewer n = rw (spell 4 h k) refl
 
   seated : (n i : ℕ) → Header layout h (taken i) n (set (set (set (set h 3 n) 0 1) 1 i) 2 1)
-  seated n i = rw (four h k .is) (record { num = refl; len = refl; beside = refl; long = refl })
+  seated n i = rw (spell 4 h k) (record { num = refl; len = refl; beside = refl; long = refl })
 
   new : Header layout h free 0 (set (set (set h 0 0) 2 0) 3 0)
-  new = rw (four h k .is) (record { num = refl; len = refl; beside = refl; long = refl })
+  new = rw (spell 4 h k) (record { num = refl; len = refl; beside = refl; long = refl })
 
 -- what the numbers show
 module _ (f o c n : ℕ) (s : formed (mk (ownerIn f o) c) (ltb 0 n) ≡ true) where
@@ -371,6 +356,9 @@ module _ (h e : List ℕ) where
 
     pub held-yes : 0 < getD h 0 0 → 0 < getD h 2 0 → roomy (getD h 3 0) e ≡ true → sane mutex-kind layout h e ≡ true
     held-yes f c r = roomy-sane mutex-kind layout h e z r (rw (lt-ltb 0 (getD h 0 0) f) (lt-ltb 0 (getD h 2 0) c))
+
+    pub calm-yes : 0 < getD h 0 0 → 0 < getD h 2 0 → getD h 3 0 ≡ 0 → sane mutex-kind layout h e ≡ true
+    calm-yes f c n = idle-sane mutex-kind layout h e z n (rw (lt-ltb 0 (getD h 0 0) f) (lt-ltb 0 (getD h 2 0) c))
 
     -- the thread waits, whatever the queue says
     pub lock-waits : (i p st : ℕ) → 0 < getD h 0 0 → 0 < getD h 2 0 → (getD h 1 0 ≡ i → ⊥) → (r : ℤ) (m : ℕ) (e' : List ℕ) → Pends i p st (getD h 3 0) e r m e'

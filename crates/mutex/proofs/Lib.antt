@@ -8,3 +8,4 @@ pub mod Upstream
 pub mod Forward
 pub mod Example
 pub mod Determined
+pub mod Border

@@ -15,7 +15,7 @@ use Rattle.wait_queue.specs.Queue.{maxWaiters, entry, ident, prio, waiting, roo
 use Rattle.wait_queue.specs.Turn.{refuse, asked, at, waits, pend, unpendFirst}
 use Rattle.wait_queue.specs.Post.{Does, Pends}
 use Rattle.mutex.specs.Post.{Written}
-use Rattle.mutex.proofs.Answers.{four}
+use Rattle.seq.proofs.Words.{spell}
 
 -- a queue does not become shorter by who joins it, and does by who is woken
 module _ (n : ℕ) (e : List ℕ) (r : ℤ) (m : ℕ) (e' : List ℕ) where
@@ -67,30 +67,30 @@ module _ (h : List ℕ) (k : 4 ≤ length h) where
   -- a lock more or less
   pub counts : (c : ℕ) → Written h (set h 2 c)
   counts c =
-      let l : getD (set h 2 c) 3 0 ≡ getD h 3 0 = rw (four h k .is) refl in
-      stays h (set h 2 c) (rw (four h k .is) refl) (rw (four h k .is) refl) (omega arith)
+      let l : getD (set h 2 c) 3 0 ≡ getD h 3 0 = rw (spell 4 h k) refl in
+      stays h (set h 2 c) (rw (spell 4 h k) refl) (rw (spell 4 h k) refl) (omega arith)
 
   -- a free one is taken
   pub takes : (i : ℕ) → getD h 0 0 ≡ 0 → Written h (set (set (set h 0 1) 1 i) 2 1)
-  takes i z = gets h (set (set (set h 0 1) 1 i) 2 1) (rw (four h k .is) refl) (λ p q. omega arith)
+  takes i z = gets h (set (set (set h 0 1) 1 i) 2 1) (rw (spell 4 h k) refl) (λ p q. omega arith)
 
   -- one is freed, or new
   pub frees : Written h (set (set h 0 0) 2 0)
-  frees = goes h (set (set h 0 0) 2 0) (rw (four h k .is) refl) (rw (four h k .is) refl)
+  frees = goes h (set (set h 0 0) 2 0) (rw (spell 4 h k) refl) (rw (spell 4 h k) refl)
 
   pub starts : Written h (set (set (set h 0 0) 2 0) 3 0)
-  starts = goes h (set (set (set h 0 0) 2 0) 3 0) (rw (four h k .is) refl) (rw (four h k .is) refl)
+  starts = goes h (set (set (set h 0 0) 2 0) 3 0) (rw (spell 4 h k) refl) (rw (spell 4 h k) refl)
 
   module _ (e : List ℕ) (r : ℤ) (m : ℕ) (e' : List ℕ) where
     -- a thread waits, or is refused
     pub joins : (i p st : ℕ) → Pends i p st (getD h 3 0) e r m e' → Written h (set h 3 m)
     joins i p st d =
-        let l : getD (set h 3 m) 3 0 ≡ m = rw (four h k .is) refl in
-        stays h (set h 3 m) (rw (four h k .is) refl) (rw (four h k .is) refl) (omega (arith, no-shorter (getD h 3 0) e r m e' i p st d))
+        let l : getD (set h 3 m) 3 0 ≡ m = rw (spell 4 h k) refl in
+        stays h (set h 3 m) (rw (spell 4 h k) refl) (rw (spell 4 h k) refl) (omega (arith, no-shorter (getD h 3 0) e r m e' i p st d))
 
     -- it is handed over
     pub passes : (i : ℕ) → roomy (getD h 3 0) e ≡ true → 0 < getD h 3 0 → Does (unpendFirst ok) (getD h 3 0) e r m e'
         → Written h (set (set (set (set h 3 m) 0 1) 1 i) 2 1)
     passes i o b d =
-        let l : getD (set (set (set (set h 3 m) 0 1) 1 i) 2 1) 3 0 ≡ m = rw (four h k .is) refl in
-        gets h (set (set (set (set h 3 m) 0 1) 1 i) 2 1) (rw (four h k .is) refl) (λ p q. omega (arith, shorter (getD h 3 0) e r m e' o b d))
+        let l : getD (set (set (set (set h 3 m) 0 1) 1 i) 2 1) 3 0 ≡ m = rw (spell 4 h k) refl in
+        gets h (set (set (set (set h 3 m) 0 1) 1 i) 2 1) (rw (spell 4 h k) refl) (λ p q. omega (arith, shorter (getD h 3 0) e r m e' o b d))

@@ -3,3 +3,4 @@ pub mod Post
 pub mod History
 pub mod Upstream
 pub mod Determined
+pub mod Border

@@ -258,8 +258,8 @@ pub fn unlock(h: &mut [u32], e: &[u64], id: u32, who: &mut u64) -> i32
     pass(h, e, who)
 }
 
-// What a wait at a condition variable would do to the mutex: UNLOCKED, TRANSFERRED; EPERM, EDEADLK: the thread holds it more than once.
-pub fn release_decide(h: &[u32], e: &[u64], id: u32, priority: u32, state: u32) -> i32
+// What release_decide answers, whatever the mutex and the thread are.
+fn release_any(h: &[u32], e: &[u64], id: u32, priority: u32, state: u32) -> i32
     ensures { λ r. ⌜ ReleaseDecided id priority state (now (h .entry)) (now (e .entry)) r ⌝ }
 {
     if !formed(h, e) {
@@ -285,6 +285,29 @@ pub fn release_decide(h: &[u32], e: &[u64], id: u32, priority: u32, state: u32) 
         return UNLOCKED;
     }
     TRANSFERRED
+}
+
+// What a wait at a condition variable would do to the mutex: UNLOCKED, TRANSFERRED; EPERM, EDEADLK: the thread holds it more than once.
+pub fn release_decide(h: &[u32], e: &[u64], id: u32, priority: u32, state: u32) -> i32
+    ensures { λ r. ⌜ ReleaseDecided id priority state (now (h .entry)) (now (e .entry)) r ⌝ }
+{
+    if !kind::housed(h, 4, e) {
+        return EINVAL;
+    }
+    if h[2] == 1 {
+        if 0 < h[0] {
+            if h[1] == id {
+                if state == RUNNING {
+                    if priority < MAX_PRIORITY {
+                        if h[3] == 0 {
+                            return UNLOCKED;
+                        }
+                    }
+                }
+            }
+        }
+    }
+    release_any(h, e, id, priority, state)
 }
 
 // 1: somebody owns it; 0: nobody.

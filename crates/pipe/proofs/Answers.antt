@@ -9,15 +9,16 @@ use lib.IntN.{ℤ, pos}
 use lib.ListN.{length, take, getD, set}
 use lib.Seq.{take-all}
 use Rattle.thread.specs.Code.{ok, einval, eagain, epipe, enomsg, ecanceled}
-use Rattle.store.specs.Store.{refuse, accept, carry, Becomes, Did, looks, handed, Started}
+use Rattle.store.specs.Store.{refuse, accept, carry, Becomes, Did, looks, handed}
 use Rattle.store.proofs.Laws.{did-no, did-yes, became, looks-is, handed-is, start-short, start-bad, start-made}
 use Rattle.ring_buf.specs.Ring.{Ring, append, leave, clear}
-use Rattle.ring_buf.specs.Bytes.{sound, held, bytes, new as newRing, may, putMany, getMany, gotten, reset as resetRing}
+use Rattle.ring_buf.specs.Bytes.{sound, held, bytes, new as newRing, putMany, getMany, gotten, reset as resetRing}
 use Rattle.ring_buf.proofs.Rings.{by-lt}
 use Rattle.ring_buf.proofs.Headers.{Sound, is-sound, from-sound}
 use Rattle.ring_buf.proofs.Answers.{held-is, spare-is, reset-done, made as made-ring}
+use Rattle.ring_buf.specs.Post.{PutsN}
 use Rattle.pipe.specs.Pipe.{Pipe, Verdict, move, writes, reads, moved, done, holding, toWrite, toRead, write, read, taken, reset, close, clearReset}
-use Rattle.pipe.specs.Post.{isOpen, isResetting, formed, object, layout, new, flag}
+use Rattle.pipe.specs.Post.{Starts, Writes, Resets, Closes, ClearsReset, isOpen, isResetting, formed, object, layout, flag}
 use Rattle.pipe.proofs.Verdicts.{write-resetting, write-closed, write-none, write-full, write-moves, read-resetting, read-none, read-closed, read-empty, read-moves, resetting-on, resetting-off, open-on, open-off}
 use Rattle.pipe.proofs.Headers.{Formed, is-formed, is-ring, kept-flags, new-flags, on-ring}
 
@@ -63,7 +64,7 @@ module _ (h b : List ℕ) (s : Sound h b) where
 -- ---- what the ring did
 
 module _ (h b : List ℕ) (w : 4 ≤ length h) where
-  pub wrote : {r : ℤ} {h' b' : List ℕ} (l : List ℕ) → getD h 3 0 ≡ 1 → getD h 2 0 < getD h 0 0 → 0 < length l → Did bytes (putMany l) h b r h' b' → Did layout (write l) h b r h' b'
+  pub wrote : {r : ℤ} {h' b' : List ℕ} (l : List ℕ) → getD h 3 0 ≡ 1 → getD h 2 0 < getD h 0 0 → 0 < length l → PutsN l h b r h' b' → Writes l h b r h' b'
   wrote l e f g d = on-ring h b w (omega arith) (write l) (putMany l) (λ s. writes-ring h b s l e f g) d
 
   module _ (n : ℕ) (e : getD h 3 0 < 2) (f : 0 < getD h 2 0) (g : 0 < n) where
@@ -87,16 +88,16 @@ module _ (h b : List ℕ) (s : Formed h b) where
     written : {v : Verdict} → writing h b (s .ring) (length l) ≡ v → write l (object h b) ≡ done (λ k. holding (append (take k l) (held h b)) (object h b)) v
     written e = ap (done (λ k. holding (append (take k l) (held h b)) (object h b))) (to-write h b (s .ring) (length l) e)
 
-    pub write-cancelled : 2 ≤ getD h 3 0 → Did layout (write l) h b ecanceled h b
+    pub write-cancelled : 2 ≤ getD h 3 0 → Writes l h b ecanceled h b
     write-cancelled f = did-no layout (write l) h b fine (written (write-resetting (getD h 2 0) (getD h 0 0) (getD h 3 0) (length l) f (s .flags)))
 
-    pub write-broken : getD h 3 0 ≡ 0 → Did layout (write l) h b epipe h b
+    pub write-broken : getD h 3 0 ≡ 0 → Writes l h b epipe h b
     write-broken e = did-no layout (write l) h b fine (written (write-closed (getD h 2 0) (getD h 0 0) (getD h 3 0) (length l) e))
 
-    pub write-nothing : getD h 3 0 ≡ 1 → length l ≡ 0 → Did layout (write l) h b enomsg h b
+    pub write-nothing : getD h 3 0 ≡ 1 → length l ≡ 0 → Writes l h b enomsg h b
     write-nothing e z = did-no layout (write l) h b fine (written (write-none (getD h 2 0) (getD h 0 0) (getD h 3 0) (length l) e z))
 
-    pub write-again : getD h 3 0 ≡ 1 → 0 < length l → getD h 0 0 ≤ getD h 2 0 → Did layout (write l) h b eagain h b
+    pub write-again : getD h 3 0 ≡ 1 → 0 < length l → getD h 0 0 ≤ getD h 2 0 → Writes l h b eagain h b
     write-again e f g = did-no layout (write l) h b fine (written (write-full (getD h 2 0) (getD h 0 0) (getD h 3 0) (length l) e f g))
 
   module _ (n : ℕ) where
@@ -135,28 +136,28 @@ module _ (h b : List ℕ) (s : Formed h b) where
   emptied : Becomes bytes (clear (held h b)) h b (set (set h 1 0) 2 0) b
   emptied = became bytes resetRing h b (reset-done h b (s .ring)) (is-sound h b (s .ring)) refl
 
-  pub reset-new : getD h 3 0 < 2 → Did layout reset h b ok (set (set (set h 1 0) 2 0) 3 (getD h 3 0 + 2)) b
+  pub reset-new : getD h 3 0 < 2 → Resets h b ok (set (set (set h 1 0) 2 0) 3 (getD h 3 0 + 2))
   reset-new f =
       did-yes layout reset h b (fine h b s) refl
       (same (λ i. record { opened = open-on (getD h 3 0) f i; resetting = resetting-on (getD h 3 0 + 2) (omega arith) (omega arith) i; ring = clear (held h b) })
       (new-flags h b (set (set h 1 0) 2 0) b (clear (held h b)) (getD h 3 0 + 2) (s .words) emptied (omega arith)))
 
-  pub reset-again : 2 ≤ getD h 3 0 → Did layout reset h b ok (set (set h 1 0) 2 0) b
+  pub reset-again : 2 ≤ getD h 3 0 → Resets h b ok (set (set h 1 0) 2 0)
   reset-again f =
       did-yes layout reset h b (fine h b s) refl
       (same (λ i. record { opened = isOpen (getD h 3 0); resetting = resetting-on (getD h 3 0) f (s .flags) i; ring = clear (held h b) })
       (kept-flags h b (set (set h 1 0) 2 0) b (clear (held h b)) (s .words) emptied (s .flags)))
 
-  pub close-done : Did layout close h b ok (set h 3 0) b
+  pub close-done : Closes h b ok (set h 3 0)
   close-done = did-yes layout close h b (fine h b s) refl (new-flags h b h b (held h b) 0 (s .words) stays (omega arith))
 
-  pub clear-over : 2 ≤ getD h 3 0 → Did layout clearReset h b ok (set h 3 (getD h 3 0 - 2)) b
+  pub clear-over : 2 ≤ getD h 3 0 → ClearsReset h b ok (set h 3 (getD h 3 0 - 2))
   clear-over f =
       did-yes layout clearReset h b (fine h b s) refl
       (same (λ i. record { opened = open-off (getD h 3 0) f (s .flags) i; resetting = resetting-off (getD h 3 0 - 2) (omega (arith, s .flags)) i; ring = held h b })
       (new-flags h b h b (held h b) (getD h 3 0 - 2) (s .words) stays (omega (arith, s .flags))))
 
-  pub clear-none : getD h 3 0 < 2 → Did layout clearReset h b ok h b
+  pub clear-none : getD h 3 0 < 2 → ClearsReset h b ok h
   clear-none f =
       did-yes layout clearReset h b (fine h b s) refl
       (same (λ i. record { opened = isOpen (getD h 3 0); resetting = resetting-off (getD h 3 0) f i; ring = held h b }) (kept-flags h b h b (held h b) (s .words) stays (s .flags)))
@@ -174,16 +175,16 @@ module _ (h b : List ℕ) (s : Formed h b) where
 
 -- a new pipe
 module _ (h b : List ℕ) (n : ℕ) where
-  pub no-header : length h < 4 → Started layout (may n b) (new n b) h b einval h b
+  pub no-header : length h < 4 → Starts n h b einval h
   no-header f = start-short f
 
-  pub no-bytes : 4 ≤ length h → n ≡ 0 → Started layout (may n b) (new n b) h b einval h b
+  pub no-bytes : 4 ≤ length h → n ≡ 0 → Starts n h b einval h
   no-bytes k e = start-bad k (rw (le-ltb 0 n (omega arith)))
 
-  pub no-buffer : 4 ≤ length h → 0 < n → length b < n → Started layout (may n b) (new n b) h b einval h b
+  pub no-buffer : 4 ≤ length h → 0 < n → length b < n → Starts n h b einval h
   no-buffer k f g = start-bad k (rw (lt-ltb 0 n f, lt-leb n (length b) g))
 
-  pub made : 4 ≤ length h → 0 < n → n ≤ length b → Started layout (may n b) (new n b) h b ok (set (set (set (set h 0 n) 1 0) 2 0) 3 1) b
+  pub made : 4 ≤ length h → 0 < n → n ≤ length b → Starts n h b ok (set (set (set (set h 0 n) 1 0) 2 0) 3 1)
   made k f g =
       start-made k (rw (lt-ltb 0 n f, le-leb n (length b) g))
       (new-flags h b (set (set (set h 0 n) 1 0) 2 0) b (newRing n b) 1 k (made-ring h b n (omega arith) f g .made refl) (omega arith))

@@ -7,12 +7,11 @@ use native.Mathlib.Omega.{arith}
 use lib.IntN.{ℤ, pos}
 use lib.ListN.{length, drop, getD}
 use Rattle.thread.specs.Code.{ok, einval, eagain, epipe, enomsg, ecanceled}
-use Rattle.store.specs.Store.{refuse, accept, answer, reply, Becomes, Started, left}
+use Rattle.store.specs.Store.{refuse, accept, answer, reply, Becomes, left}
 use Rattle.store.specs.History.{Step, Made, begun, made}
 use Rattle.ring_buf.specs.Ring.{wrap, turn}
-use Rattle.ring_buf.specs.Bytes.{may}
 use Rattle.pipe.specs.Pipe.{Pipe, write, read, taken}
-use Rattle.pipe.specs.Post.{object, layout, new, wakes, pends, writeDecision, readDecision}
+use Rattle.pipe.specs.Post.{Starts, object, layout, new, wakes, pends, writeDecision, readDecision}
 use Rattle.pipe.specs.History.{Call, writes, reads, resets, closes, clears, does, gives, got, line, open-by, resetting-by}
 use Rattle.pipe.specs.HandOver.{flags}
 
@@ -87,8 +86,7 @@ reset-over = refl
 abbrev written : List ℕ
 written = 1 ∷ 2 ∷ 3 ∷ 9 ∷ []
 
-started : Started layout (may 4 (9 ∷ 9 ∷ 9 ∷ 9 ∷ [])) (new 4 (9 ∷ 9 ∷ 9 ∷ 9 ∷ [])) (7 ∷ 7 ∷ 7 ∷ 7 ∷ []) (9 ∷ 9 ∷ 9 ∷ 9 ∷ []) ok (4 ∷ 0 ∷ 0 ∷ 1 ∷ [])
-    (9 ∷ 9 ∷ 9 ∷ 9 ∷ [])
+started : Starts 4 (7 ∷ 7 ∷ 7 ∷ 7 ∷ []) (9 ∷ 9 ∷ 9 ∷ 9 ∷ []) ok (4 ∷ 0 ∷ 0 ∷ 1 ∷ [])
 unfolding turn
 started = record {
   code = refl;

@@ -8,15 +8,14 @@ use lib.IntN.{ℤ, pos, negsuc}
 use lib.ListN.{length, take, drop, take-append-drop}
 use lib.Seq.{take-at, length-take-le}
 use Rattle.thread.specs.Code.{ok}
-use Rattle.store.specs.Store.{answer, left, Filled, Started}
+use Rattle.store.specs.Store.{answer, left, Filled}
 use Rattle.store.specs.History.{Step, Ran, fresh, ran, Made}
 use Rattle.store.proofs.Laws.{no-code}
 use Rattle.store.proofs.Histories.{from-start}
 use Rattle.ring_buf.specs.Ring.{append, leave}
-use Rattle.ring_buf.specs.Bytes.{may}
 use Rattle.ring_buf.proofs.Answers.{held-is, spare-is}
 use Rattle.pipe.specs.Pipe.{Pipe, Verdict, never, later, move, moved, done, holding, toWrite, toRead}
-use Rattle.pipe.specs.Post.{formed, object, layout, new}
+use Rattle.pipe.specs.Post.{Starts, formed, object, layout, new}
 use Rattle.pipe.specs.History.{Call, writes, reads, resets, closes, clears, does, gives, got, line, open-by, resetting-by, Promise}
 use Rattle.pipe.proofs.Verdicts.{Within, write-within, read-within}
 use Rattle.pipe.proofs.Headers.{from-formed}
@@ -98,8 +97,8 @@ holds n b fresh = record { order = refl; size = refl; opened = refl; resetting =
 holds n b (ran {ss} {s = p} {k} o o' x f) = next n ss p (holds n b x) k o o' f
 
 -- of a new pipe in memory, after an init that is answered 0
-pub from-init : (n : ℕ) {h b h₀ b₀ : List ℕ} → Started layout (may n b) (new n b) h b ok h₀ b₀ → {ss : List (Step Call)} {h' b' : List ℕ}
-    → Made layout does gives h₀ b₀ ss h' b' → (formed h' b' ≡ true) × Promise n ss (object h' b')
+pub from-init : (n : ℕ) {h b h₀ : List ℕ} → Starts n h b ok h₀ → {ss : List (Step Call)} {h' b' : List ℕ}
+    → Made layout does gives h₀ b ss h' b' → (formed h' b' ≡ true) × Promise n ss (object h' b')
 from-init n {b = b} s {ss} {h'} {b'} x =
     let a = from-start layout does gives s x in
     let m = holds n b (a .1) in

@@ -10,15 +10,14 @@ use lib.IntN.{ℤ, pos, negsuc}
 use lib.ListN.{length, take, getD, length-append, length-take, length-drop}
 use Rattle.seq.specs.List.{any}
 use Rattle.thread.specs.Code.{ok, einval}
-use Rattle.store.specs.Store.{accept, answer, Did, looks, Started, left}
+use Rattle.store.specs.Store.{accept, answer, Did, looks, left}
 use Rattle.store.specs.History.{Step, Made}
 use Rattle.store.proofs.Laws.{looks-is, looks-bad, answers}
 use Rattle.store.proofs.Histories.{done as after}
 use Rattle.ring_buf.specs.Ring.{append, leave}
-use Rattle.ring_buf.specs.Bytes.{may}
 use Rattle.ring_buf.proofs.Answers.{held-is, spare-is}
-use Rattle.pipe.specs.Pipe.{Pipe, Verdict, never, later, move, done, holding, toWrite, toRead, write, read, reset, close, clearReset}
-use Rattle.pipe.specs.Post.{formed, object, layout, new, size as sizeOf, data-held, space, isEmpty, isFull, flag, goes, proper, writeDecision, readDecision, Decided}
+use Rattle.pipe.specs.Pipe.{Pipe, Verdict, never, later, move, done, holding, toWrite, toRead, write, read, reset, close}
+use Rattle.pipe.specs.Post.{Starts, Writes, Reads, Resets, Closes, ClearsReset, GetsSpace, GetsData, GetsSize, SaysEmpty, SaysFull, SaysOpen, SaysResetting, WriteDecided, ReadDecided, formed, object, layout, size as sizeOf, data-held, space, isEmpty, isFull, flag, goes, proper}
 use Rattle.pipe.specs.History.{Call, writes as writesCall, reads as readsCall, resets, closes, clears, does, gives}
 use Rattle.pipe.specs.HandOver.{used, flags}
 use Rattle.pipe.specs.Upstream.{size, Inv, Err, Init, WriteCheck, ReadCheck, Reset, Close, ClearReset, SpaceGet, DataGet, IsEmpty, IsFull, IsOpen, IsResetting, SizeGet, WriteDecide, ReadDecide, Roundtrip, Conservation, ResetEmpties, CloseClears}
@@ -39,7 +38,7 @@ refuses k {h} {b} {r} {h'} {b'} f d = let a = d .after in (d .code ∙ rw f refl
 
 -- ---- init
 
-pub pipe-init : (n : ℕ) {h b : List ℕ} {r : ℤ} {h' : List ℕ} → 4 ≤ length h → n ≤ length b → Started layout (may n b) (new n b) h b r h' b
+pub pipe-init : (n : ℕ) {h b : List ℕ} {r : ℤ} {h' : List ℕ} → 4 ≤ length h → n ≤ length b → Starts n h b r h'
     → Init n r (object h' b)
 pipe-init n {h} {b} {r} {h'} w room s =
     record {
@@ -176,24 +175,25 @@ module _ (h b : List ℕ) (f : formed h b ≡ true) where
         let i = subst Inv (s .1) (inv h' b' (s .0)) in
         subst (λ (z : ℤ). P z (object h' b')) (sym (answers layout (does k) h b d f)) (subst (P (answer (does k (object h b)))) (sym (s .1)) (x i))
 
-  pub write-check : (l : List ℕ) {r : ℤ} {h' b' : List ℕ} → Did layout (write l) h b r h' b' → WriteCheck (length l) (object h b) r (object h' b')
+  pub write-check : (l : List ℕ) {r : ℤ} {h' b' : List ℕ} → Writes l h b r h' b' → WriteCheck (length l) (object h b) r (object h' b')
   write-check l d =
       let p = object h b in
       meets (writesCall l) d (WriteCheck (length l) p)
       (wrote l p (toWrite (length l) p) (write-within (used p) (size p) (p .opened) (p .resetting) (length l)) (closed-errs l p) (resetting-errs l p))
 
-  pub read-check : (n : ℕ) {r : ℤ} {h' b' : List ℕ} → Did layout (read n) h b r h' b' → ReadCheck n (object h b) r (object h' b')
-  read-check n d =
+  pub read-check : (o : List ℕ) {r : ℤ} {h' o' : List ℕ} → Reads h b o r h' o' → ReadCheck (length o) (object h b) r (object h' b)
+  read-check o (d, _) =
       let p = object h b in
+      let n = length o in
       meets (readsCall n) d (ReadCheck n p) (took n p (toRead n p) (read-within (used p) (p .opened) (p .resetting) n) (read-errs n p))
 
-  pub pipe-reset : {r : ℤ} {h' b' : List ℕ} → Did layout reset h b r h' b' → Reset (object h b) (object h' b')
+  pub pipe-reset : {r : ℤ} {h' : List ℕ} → Resets h b r h' → Reset (object h b) (object h' b)
   pipe-reset d = meets resets d (λ z. Reset (object h b)) (λ i. record { inv = i; sized = refl; empty = refl; opened = refl; resetting = refl })
 
-  pub pipe-close : {r : ℤ} {h' b' : List ℕ} → Did layout close h b r h' b' → Close (object h b) (object h' b')
+  pub pipe-close : {r : ℤ} {h' : List ℕ} → Closes h b r h' → Close (object h b) (object h' b)
   pipe-close d = meets closes d (λ z. Close (object h b)) (λ i. record { inv = i; sized = refl; kept = refl; flagged = refl })
 
-  pub pipe-clear : {r : ℤ} {h' b' : List ℕ} → Did layout clearReset h b r h' b' → ClearReset (object h b) (object h' b')
+  pub pipe-clear : {r : ℤ} {h' : List ℕ} → ClearsReset h b r h' → ClearReset (object h b) (object h' b)
   pipe-clear d = meets clears d (λ z. ClearReset (object h b)) (λ i. record { inv = i; sized = refl; kept = refl; opened = refl; resetting = refl })
 
   -- ---- what is told
@@ -201,23 +201,23 @@ module _ (h b : List ℕ) (f : formed h b ≡ true) where
   good : Formed h b
   good = from-formed h b f
 
-  pub pipe-space : {r : ℤ} → r ≡ looks layout space h b → SpaceGet (object h b) r
+  pub pipe-space : {r : ℤ} → GetsSpace h b r → SpaceGet (object h b) r
   pipe-space d = d ∙ looks-is layout h b space f ∙ ap pos (spare-is h b (good .ring) ∙ ap (λ (n : ℕ). getD h 0 0 - n) (sym (held-is h b (good .ring))))
 
-  pub pipe-data : {r : ℤ} → r ≡ looks layout data-held h b → DataGet (object h b) r
+  pub pipe-data : {r : ℤ} → GetsData h b r → DataGet (object h b) r
   pipe-data d = d ∙ looks-is layout h b data-held f
 
-  pub pipe-size : {r : ℤ} → r ≡ looks layout sizeOf h b → SizeGet (object h b) r
+  pub pipe-size : {r : ℤ} → GetsSize h b r → SizeGet (object h b) r
   pipe-size d = d ∙ looks-is layout h b sizeOf f
 
-  pub pipe-empty : {r : ℤ} → r ≡ looks layout isEmpty h b → IsEmpty (object h b) r
+  pub pipe-empty : {r : ℤ} → SaysEmpty h b r → IsEmpty (object h b) r
   pipe-empty d = d ∙ looks-is layout h b isEmpty f ∙ go (object h b .ring .held)
     where
       go : (l : List ℕ) → cond (any l) (pos 0) (pos 1) ≡ flag (eqb (length l) 0)
       go [] = refl
       go (x ∷ l) = rw (ne-eqb (suc (length l)) 0 (λ e. omega arith))
 
-  pub pipe-full : {r : ℤ} → r ≡ looks layout isFull h b → IsFull (object h b) r
+  pub pipe-full : {r : ℤ} → SaysFull h b r → IsFull (object h b) r
   pipe-full d = d ∙ looks-is layout h b isFull f ∙ go (object h b .ring .spare) (spare-is h b (good .ring)) (held-is h b (good .ring))
     where
       go : (l : List ℕ) → length l ≡ getD h 0 0 - getD h 2 0 → used (object h b) ≡ getD h 2 0
@@ -225,10 +225,10 @@ module _ (h b : List ℕ) (f : formed h b ≡ true) where
       go [] e u = rw (eq-eqb (used (object h b)) (getD h 0 0) (omega (arith, good .ring .size)))
       go (x ∷ l) e u = rw (ne-eqb (used (object h b)) (getD h 0 0) (λ z. omega arith))
 
-  pub pipe-open : {r : ℤ} → r ≡ looks layout (λ p. flag (p .opened)) h b → IsOpen (object h b) r
+  pub pipe-open : {r : ℤ} → SaysOpen h b r → IsOpen (object h b) r
   pipe-open d = d ∙ looks-is layout h b (λ p. flag (p .opened)) f
 
-  pub pipe-resetting : {r : ℤ} → r ≡ looks layout (λ p. flag (p .resetting)) h b → IsResetting (object h b) r
+  pub pipe-resetting : {r : ℤ} → SaysResetting h b r → IsResetting (object h b) r
   pipe-resetting d = d ∙ looks-is layout h b (λ p. flag (p .resetting)) f
 
   pub conservation : Conservation (object h b)
@@ -244,24 +244,23 @@ told-refuses g h b e d = d ∙ looks-bad layout h b g e
 -- ---- the decide functions
 
 module _ (u s f n : ℕ) (w : Bool) {a c : ℕ} {r : ℤ} {a' c' : ℕ} where
-  pub write-decide : proper u s f ≡ true → Decided (writeDecision u s f n w) a c r a' c' → WriteDecide f r
+  pub write-decide : proper u s f ≡ true → WriteDecided u s f n w a c r a' c' → WriteDecide f r
   write-decide p d = record { resetting = λ e. d .code ∙ rw (p, e); closed = λ e o. d .code ∙ rw (p, e, o) }
 
-  pub read-decide : proper u s f ≡ true → Decided (readDecision u s f n w) a c r a' c' → ReadDecide f r
+  pub read-decide : proper u s f ≡ true → ReadDecided u s f n w a c r a' c' → ReadDecide f r
   read-decide p d = λ e. d .code ∙ rw (p, e)
 
   -- numbers that no pipe has are refused, and the words stay
-  pub write-decide-refuses : proper u s f ≡ false → Decided (writeDecision u s f n w) a c r a' c' → (r ≡ einval) × ((a' ≡ a) × (c' ≡ c))
+  pub write-decide-refuses : proper u s f ≡ false → WriteDecided u s f n w a c r a' c' → (r ≡ einval) × ((a' ≡ a) × (c' ≡ c))
   write-decide-refuses p d = (d .code ∙ rw p, (d .actual ∙ rw p, d .used ∙ rw p))
 
-  pub read-decide-refuses : proper u s f ≡ false → Decided (readDecision u s f n w) a c r a' c' → (r ≡ einval) × ((a' ≡ a) × (c' ≡ c))
+  pub read-decide-refuses : proper u s f ≡ false → ReadDecided u s f n w a c r a' c' → (r ≡ einval) × ((a' ≡ a) × (c' ≡ c))
   read-decide-refuses p d = (d .code ∙ rw p, (d .actual ∙ rw p, d .used ∙ rw p))
 
 -- ---- lemmas
 
 -- lemma_invariant_inductive ends in `ensures true`: the invariant holds after any sequence of calls of a new pipe
-pub invariant-inductive : (n : ℕ) {h b h₀ b₀ : List ℕ} → Started layout (may n b) (new n b) h b ok h₀ b₀ → {ss : List (Step Call)} {h' b' : List ℕ}
-    → Made layout does gives h₀ b₀ ss h' b'
+pub invariant-inductive : (n : ℕ) {h b h₀ : List ℕ} → Starts n h b ok h₀ → {ss : List (Step Call)} {h' b' : List ℕ} → Made layout does gives h₀ b ss h' b'
     → Inv (object h' b')
 invariant-inductive n s {h' = h'} {b' = b'} x = inv h' b' (from-init n s x .0)
 

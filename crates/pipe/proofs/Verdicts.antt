@@ -11,7 +11,7 @@ use Rattle.store.specs.Store.{Reply, refuse, accept}
 use Rattle.store.proofs.Laws.{both-true}
 use Rattle.ring_buf.proofs.Rings.{by-lt}
 use Rattle.pipe.specs.Pipe.{Verdict, never, later, move, writes, reads}
-use Rattle.pipe.specs.Post.{isOpen, isResetting, Moves, goes, wakes, pends, decided, proper, behind, writeDecision, readDecision, Decided}
+use Rattle.pipe.specs.Post.{WriteDecided, ReadDecided, isOpen, isResetting, Moves, goes, wakes, pends, decided, proper, behind, writeDecision, readDecision, Decided}
 
 pub resetting-on : (f : ℕ) → 2 ≤ f → f ≤ 3 → isResetting f ≡ true
 resetting-on f h k = by-lt f 3 (λ l. rw (eq-eqb f 2 (omega arith))) (λ l. rw (eq-eqb f 3 (omega arith), ne-eqb f 2 (λ e. omega arith)))
@@ -124,36 +124,36 @@ module _ (used size f n : ℕ) (w : Bool) where
   read-is p e = rw p (ap (decided used (cond w wakes goes) (λ k. used - k)) e)
 
 module _ (used size f n : ℕ) (w : Bool) (a u : ℕ) where
-  pub write-improper : proper used size f ≡ false → Decided (writeDecision used size f n w) a u einval a u
+  pub write-improper : proper used size f ≡ false → WriteDecided used size f n w a u einval a u
   write-improper e = decided-no (rw e)
 
-  pub read-improper : proper used size f ≡ false → Decided (readDecision used size f n w) a u einval a u
+  pub read-improper : proper used size f ≡ false → ReadDecided used size f n w a u einval a u
   read-improper e = decided-no (rw e)
 
   module _ (p : proper used size f ≡ true) where
-    pub write-refused : {c : ℤ} → writes used size (isOpen f) (isResetting f) n ≡ never c → Decided (writeDecision used size f n w) a u c a u
+    pub write-refused : {c : ℤ} → writes used size (isOpen f) (isResetting f) n ≡ never c → WriteDecided used size f n w a u c a u
     write-refused e = decided-no (write-is used size f n w p e)
 
-    pub write-pends : writes used size (isOpen f) (isResetting f) n ≡ later → Decided (writeDecision used size f n w) a u pends 0 used
+    pub write-pends : writes used size (isOpen f) (isResetting f) n ≡ later → WriteDecided used size f n w a u pends 0 used
     write-pends e = decided-yes (write-is used size f n w p e)
 
-    pub write-straight : {k : ℕ} → w ≡ true → used ≡ 0 → writes used size (isOpen f) (isResetting f) n ≡ move k → Decided (writeDecision used size f n w) a u wakes k 0
+    pub write-straight : {k : ℕ} → w ≡ true → used ≡ 0 → writes used size (isOpen f) (isResetting f) n ≡ move k → WriteDecided used size f n w a u wakes k 0
     write-straight {k} g z e = decided-yes (write-is used size f n w p e ∙ rw (g, eq-eqb used 0 z))
 
-    pub write-behind : {k : ℕ} → w ≡ true → 0 < used → writes used size (isOpen f) (isResetting f) n ≡ move k → Decided (writeDecision used size f n w) a u wakes k (used + k)
+    pub write-behind : {k : ℕ} → w ≡ true → 0 < used → writes used size (isOpen f) (isResetting f) n ≡ move k → WriteDecided used size f n w a u wakes k (used + k)
     write-behind {k} g z e = decided-yes (write-is used size f n w p e ∙ rw (g, ne-eqb used 0 (λ y. omega arith)))
 
-    pub write-goes : {k : ℕ} → w ≡ false → writes used size (isOpen f) (isResetting f) n ≡ move k → Decided (writeDecision used size f n w) a u goes k (used + k)
+    pub write-goes : {k : ℕ} → w ≡ false → writes used size (isOpen f) (isResetting f) n ≡ move k → WriteDecided used size f n w a u goes k (used + k)
     write-goes {k} g e = decided-yes (write-is used size f n w p e ∙ rw g)
 
-    pub read-refused : {c : ℤ} → reads used (isOpen f) (isResetting f) n ≡ never c → Decided (readDecision used size f n w) a u c a u
+    pub read-refused : {c : ℤ} → reads used (isOpen f) (isResetting f) n ≡ never c → ReadDecided used size f n w a u c a u
     read-refused e = decided-no (read-is used size f n w p e)
 
-    pub read-pends : reads used (isOpen f) (isResetting f) n ≡ later → Decided (readDecision used size f n w) a u pends 0 used
+    pub read-pends : reads used (isOpen f) (isResetting f) n ≡ later → ReadDecided used size f n w a u pends 0 used
     read-pends e = decided-yes (read-is used size f n w p e)
 
-    pub read-wakes : {k : ℕ} → w ≡ true → reads used (isOpen f) (isResetting f) n ≡ move k → Decided (readDecision used size f n w) a u wakes k (used - k)
+    pub read-wakes : {k : ℕ} → w ≡ true → reads used (isOpen f) (isResetting f) n ≡ move k → ReadDecided used size f n w a u wakes k (used - k)
     read-wakes {k} g e = decided-yes (read-is used size f n w p e ∙ rw g)
 
-    pub read-goes : {k : ℕ} → w ≡ false → reads used (isOpen f) (isResetting f) n ≡ move k → Decided (readDecision used size f n w) a u goes k (used - k)
+    pub read-goes : {k : ℕ} → w ≡ false → reads used (isOpen f) (isResetting f) n ≡ move k → ReadDecided used size f n w a u goes k (used - k)
     read-goes {k} g e = decided-yes (read-is used size f n w p e ∙ rw g)

@@ -8,9 +8,9 @@ use lib.Dec.{eqb, ltb, leb}
 use lib.IntN.{ℤ, pos}
 use lib.ListN.{length, getD}
 use Rattle.thread.specs.Code.{einval}
-use Rattle.store.specs.Store.{Reply, refuse, accept, answer, settled, Place}
-use Rattle.ring_buf.specs.Bytes.{sound, held, new as newRing, sizeOf, spaceOf, capacityOf, empty, full}
-use Rattle.pipe.specs.Pipe.{Pipe, Verdict, never, later, move, writes, reads}
+use Rattle.store.specs.Store.{Reply, refuse, accept, answer, settled, Place, Did, looks, Fills, Started}
+use Rattle.ring_buf.specs.Bytes.{sound, held, new as newRing, may, sizeOf, spaceOf, capacityOf, empty, full}
+use Rattle.pipe.specs.Pipe.{Pipe, Verdict, never, later, move, writes, reads, write, read, taken, reset, close, clearReset}
 
 -- 0: closed; 1: open; 2: closed and resetting; 3: open and resetting
 abbrev pub isOpen : ℕ → Bool
@@ -103,3 +103,55 @@ pub record Decided (d : Reply Moves) (a u : ℕ) (r : ℤ) (a' u' : ℕ) : Type 
   pub code : r ≡ answer d
   pub actual : a' ≡ settled (λ m. m .actual) d a
   pub used : u' ≡ settled (λ m. m .used) d u
+
+-- ---- what each function does
+
+-- a new pipe of n bytes, open; it holds none
+abbrev pub Starts : ℕ → List ℕ → List ℕ → ℤ → List ℕ → Type 0
+Starts n h b r h' = Started layout (may n b) (new n b) h b r h' b
+
+-- the first of src go behind what is held, as many as there is room for
+abbrev pub Writes : List ℕ → List ℕ → List ℕ → ℤ → List ℕ → List ℕ → Type 0
+Writes src h b r h' b' = Did layout (write src) h b r h' b'
+
+-- the first bytes that are held come out, as many as out has room for
+abbrev pub Reads : List ℕ → List ℕ → List ℕ → ℤ → List ℕ → List ℕ → Type 0
+Reads h b out r h' out' = Fills layout (read (length out)) (taken (length out)) h b out r h' out'
+
+abbrev pub Resets : List ℕ → List ℕ → ℤ → List ℕ → Type 0
+Resets h b r h' = Did layout reset h b r h' b
+
+abbrev pub Closes : List ℕ → List ℕ → ℤ → List ℕ → Type 0
+Closes h b r h' = Did layout close h b r h' b
+
+abbrev pub ClearsReset : List ℕ → List ℕ → ℤ → List ℕ → Type 0
+ClearsReset h b r h' = Did layout clearReset h b r h' b
+
+-- a number of a pipe
+abbrev pub GetsSpace : List ℕ → List ℕ → ℤ → Type 0
+GetsSpace h b r = r ≡ looks layout space h b
+
+abbrev pub GetsData : List ℕ → List ℕ → ℤ → Type 0
+GetsData h b r = r ≡ looks layout data-held h b
+
+abbrev pub GetsSize : List ℕ → List ℕ → ℤ → Type 0
+GetsSize h b r = r ≡ looks layout size h b
+
+abbrev pub SaysEmpty : List ℕ → List ℕ → ℤ → Type 0
+SaysEmpty h b r = r ≡ looks layout isEmpty h b
+
+abbrev pub SaysFull : List ℕ → List ℕ → ℤ → Type 0
+SaysFull h b r = r ≡ looks layout isFull h b
+
+abbrev pub SaysOpen : List ℕ → List ℕ → ℤ → Type 0
+SaysOpen h b r = r ≡ looks layout (λ (p : Pipe). flag (p .opened)) h b
+
+abbrev pub SaysResetting : List ℕ → List ℕ → ℤ → Type 0
+SaysResetting h b r = r ≡ looks layout (λ (p : Pipe). flag (p .resetting)) h b
+
+-- on plain numbers: how many bytes move, and how many are held then
+abbrev pub WriteDecided : ℕ → ℕ → ℕ → ℕ → Bool → ℕ → ℕ → ℤ → ℕ → ℕ → Type 0
+WriteDecided used size flags n reader a u r a' u' = Decided (writeDecision used size flags n reader) a u r a' u'
+
+abbrev pub ReadDecided : ℕ → ℕ → ℕ → ℕ → Bool → ℕ → ℕ → ℤ → ℕ → ℕ → Type 0
+ReadDecided used size flags n writer a u r a' u' = Decided (readDecision used size flags n writer) a u r a' u'

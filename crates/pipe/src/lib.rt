@@ -10,10 +10,9 @@ ghost use mathlib.Core.Path.{_≡_};
 ghost use Prim.Native.Nat.{_<_, _≤_, min};
 ghost use mathlib.Core.List.{[]};
 ghost use lib.ListN.{length, getD};
-ghost use Rattle.store.specs.Store.{Did, looks, handed, Filled, Started};
-ghost use Rattle.ring_buf.specs.Bytes.{may};
-ghost use Rattle.pipe.specs.Pipe.{Pipe, write as doWrite, read as doRead, taken, reset as doReset, close as doClose, clearReset};
-ghost use Rattle.pipe.specs.Post.{isOpen, formed as wellFormed, layout, new, size as sizeOf, data-held as dataOf, space as spaceOf, isEmpty as emptyOf, isFull as fullOf, flag, proper as properNumbers, writeDecision, readDecision, Decided};
+ghost use Rattle.store.specs.Store.{Did, handed};
+ghost use Rattle.pipe.specs.Pipe.{read as doRead, taken};
+ghost use Rattle.pipe.specs.Post.{Starts, Writes, Reads, Resets, Closes, ClearsReset, GetsSpace, GetsData, GetsSize, SaysEmpty, SaysFull, SaysOpen, SaysResetting, WriteDecided, ReadDecided, isOpen, formed as wellFormed, layout, proper as properNumbers};
 
 // Open, and resetting too: Gale's FLAG_OPEN and FLAG_RESET are bits.
 pub const FLAG_OPEN: u32 = 1;
@@ -60,7 +59,7 @@ fn formed(h: &[u32], b: &[u8]) -> bool
 
 // OK: open and empty; EINVAL: a size of 0, or above the buffer's length.
 pub fn init(h: &mut [u32], b: &[u8], size: u32) -> i32
-    ensures { λ r. ⌜ Started layout (may size (now (b .entry))) (new size (now (b .entry))) (now (h .entry)) (now (b .entry)) r (now (h .exit)) (now (b .entry)) ⌝ }
+    ensures { λ r. ⌜ Starts size (now (h .entry)) (now (b .entry)) r (now (h .exit)) ⌝ }
 {
     if h.len() < 4 {
         return EINVAL;
@@ -79,29 +78,29 @@ pub fn init(h: &mut [u32], b: &[u8], size: u32) -> i32
 }
 
 // A write to a pipe that takes no byte.
-fn write_refusal(h: &[u32], b: &[u8], src: &[u8]) -> i64
+fn write_refusal(h: &[u32], b: &[u8], src: &[u8]) -> i32
     requires { ⌜ (getD (now h) 3 0 ≡ 1 → 0 < length (now src) → getD (now h) 0 0 ≤ getD (now h) 2 0) ⌝ }
-    ensures { λ r. ⌜ Did layout (doWrite (now (src .entry))) (now (h .entry)) (now (b .entry)) r (now (h .entry)) (now (b .entry)) ⌝ }
+    ensures { λ r. ⌜ Writes (now (src .entry)) (now (h .entry)) (now (b .entry)) r (now (h .entry)) (now (b .entry)) ⌝ }
 {
     if !formed(h, b) {
-        return EINVAL as i64;
+        return EINVAL;
     }
     let flags = h[3];
     if FLAG_RESET <= flags {
-        return ECANCELED as i64;
+        return ECANCELED;
     }
     if flags == 0 {
-        return EPIPE as i64;
+        return EPIPE;
     }
     if src.len() == 0 {
-        return ENOMSG as i64;
+        return ENOMSG;
     }
-    EAGAIN as i64
+    EAGAIN
 }
 
 // How many bytes went in, the first of src. ECANCELED: resetting; EPIPE: closed; ENOMSG: src is empty; EAGAIN: full.
 pub fn write(h: &mut [u32], b: &mut [u8], src: &[u8]) -> i64
-    ensures { λ r. ⌜ Did layout (doWrite (now (src .entry))) (now (h .entry)) (now (b .entry)) r (now (h .exit)) (now (b .exit)) ⌝ }
+    ensures { λ r. ⌜ Writes (now (src .entry)) (now (h .entry)) (now (b .entry)) r (now (h .exit)) (now (b .exit)) ⌝ }
 {
     if h.len() < 4 {
         return EINVAL as i64;
@@ -113,35 +112,34 @@ pub fn write(h: &mut [u32], b: &mut [u8], src: &[u8]) -> i64
             }
         }
     }
-    write_refusal(h, b, src)
+    write_refusal(h, b, src) as i64
 }
 
 // A read from a pipe that gives no byte.
-fn read_refusal(h: &[u32], b: &[u8], n: usize) -> i64
+fn read_refusal(h: &[u32], b: &[u8], n: usize) -> i32
     requires { ⌜ (getD (now h) 3 0 < 2 → 0 < n → getD (now h) 2 0 ≡ 0) ⌝ }
     ensures { λ r. ⌜ Did layout (doRead n) (now (h .entry)) (now (b .entry)) r (now (h .entry)) (now (b .entry)) ⌝ }
     ensures { λ r. ⌜ handed layout (taken n) (now (h .entry)) (now (b .entry)) ≡ [] ⌝ }
 {
     if !formed(h, b) {
-        return EINVAL as i64;
+        return EINVAL;
     }
     let flags = h[3];
     if FLAG_RESET <= flags {
-        return ECANCELED as i64;
+        return ECANCELED;
     }
     if n == 0 {
-        return ENOMSG as i64;
+        return ENOMSG;
     }
     if flags == 0 {
-        return EPIPE as i64;
+        return EPIPE;
     }
-    EAGAIN as i64
+    EAGAIN
 }
 
 // How many bytes came out, to the first of out. ECANCELED: resetting; ENOMSG: out is empty; if nothing is held EPIPE: closed, EAGAIN: open.
 pub fn read(h: &mut [u32], b: &[u8], out: &mut [u8]) -> i64
-    ensures { λ r. ⌜ Did layout (doRead (length (now (out .entry)))) (now (h .entry)) (now (b .entry)) r (now (h .exit)) (now (b .entry)) ⌝ }
-    ensures { λ r. ⌜ Filled (handed layout (taken (length (now (out .entry)))) (now (h .entry)) (now (b .entry))) (now (out .entry)) (now (out .exit)) ⌝ }
+    ensures { λ r. ⌜ Reads (now (h .entry)) (now (b .entry)) (now (out .entry)) r (now (h .exit)) (now (out .exit)) ⌝ }
 {
     if h.len() < 4 {
         return EINVAL as i64;
@@ -153,12 +151,12 @@ pub fn read(h: &mut [u32], b: &[u8], out: &mut [u8]) -> i64
             }
         }
     }
-    read_refusal(h, b, out.len())
+    read_refusal(h, b, out.len()) as i64
 }
 
 // OK: nothing is held, and it is resetting.
 pub fn reset(h: &mut [u32], b: &[u8]) -> i32
-    ensures { λ r. ⌜ Did layout doReset (now (h .entry)) (now (b .entry)) r (now (h .exit)) (now (b .entry)) ⌝ }
+    ensures { λ r. ⌜ Resets (now (h .entry)) (now (b .entry)) r (now (h .exit)) ⌝ }
 {
     if !formed(h, b) {
         return EINVAL;
@@ -174,7 +172,7 @@ pub fn reset(h: &mut [u32], b: &[u8]) -> i32
 
 // OK: neither open nor resetting; what is held stays.
 pub fn close(h: &mut [u32], b: &[u8]) -> i32
-    ensures { λ r. ⌜ Did layout doClose (now (h .entry)) (now (b .entry)) r (now (h .exit)) (now (b .entry)) ⌝ }
+    ensures { λ r. ⌜ Closes (now (h .entry)) (now (b .entry)) r (now (h .exit)) ⌝ }
 {
     if !formed(h, b) {
         return EINVAL;
@@ -185,7 +183,7 @@ pub fn close(h: &mut [u32], b: &[u8]) -> i32
 
 // OK: not resetting.
 pub fn clear_reset(h: &mut [u32], b: &[u8]) -> i32
-    ensures { λ r. ⌜ Did layout clearReset (now (h .entry)) (now (b .entry)) r (now (h .exit)) (now (b .entry)) ⌝ }
+    ensures { λ r. ⌜ ClearsReset (now (h .entry)) (now (b .entry)) r (now (h .exit)) ⌝ }
 {
     if !formed(h, b) {
         return EINVAL;
@@ -198,7 +196,7 @@ pub fn clear_reset(h: &mut [u32], b: &[u8]) -> i32
 }
 
 pub fn space_get(h: &[u32], b: &[u8]) -> i64
-    ensures { λ r. ⌜ r ≡ looks layout spaceOf (now (h .entry)) (now (b .entry)) ⌝ }
+    ensures { λ r. ⌜ GetsSpace (now (h .entry)) (now (b .entry)) r ⌝ }
 {
     if !formed(h, b) {
         return EINVAL as i64;
@@ -208,7 +206,7 @@ pub fn space_get(h: &[u32], b: &[u8]) -> i64
 
 // How many bytes are held.
 pub fn data_get(h: &[u32], b: &[u8]) -> i64
-    ensures { λ r. ⌜ r ≡ looks layout dataOf (now (h .entry)) (now (b .entry)) ⌝ }
+    ensures { λ r. ⌜ GetsData (now (h .entry)) (now (b .entry)) r ⌝ }
 {
     if !formed(h, b) {
         return EINVAL as i64;
@@ -217,7 +215,7 @@ pub fn data_get(h: &[u32], b: &[u8]) -> i64
 }
 
 pub fn size(h: &[u32], b: &[u8]) -> i64
-    ensures { λ r. ⌜ r ≡ looks layout sizeOf (now (h .entry)) (now (b .entry)) ⌝ }
+    ensures { λ r. ⌜ GetsSize (now (h .entry)) (now (b .entry)) r ⌝ }
 {
     if !formed(h, b) {
         return EINVAL as i64;
@@ -227,7 +225,7 @@ pub fn size(h: &[u32], b: &[u8]) -> i64
 
 // 1: nothing is held; 0.
 pub fn is_empty(h: &[u32], b: &[u8]) -> i32
-    ensures { λ r. ⌜ r ≡ looks layout emptyOf (now (h .entry)) (now (b .entry)) ⌝ }
+    ensures { λ r. ⌜ SaysEmpty (now (h .entry)) (now (b .entry)) r ⌝ }
 {
     if !formed(h, b) {
         return EINVAL;
@@ -237,7 +235,7 @@ pub fn is_empty(h: &[u32], b: &[u8]) -> i32
 
 // 1: nothing is free; 0.
 pub fn is_full(h: &[u32], b: &[u8]) -> i32
-    ensures { λ r. ⌜ r ≡ looks layout fullOf (now (h .entry)) (now (b .entry)) ⌝ }
+    ensures { λ r. ⌜ SaysFull (now (h .entry)) (now (b .entry)) r ⌝ }
 {
     if !formed(h, b) {
         return EINVAL;
@@ -246,7 +244,7 @@ pub fn is_full(h: &[u32], b: &[u8]) -> i32
 }
 
 pub fn is_open(h: &[u32], b: &[u8]) -> i32
-    ensures { λ r. ⌜ r ≡ looks layout (λ (p : Pipe). flag (p .opened)) (now (h .entry)) (now (b .entry)) ⌝ }
+    ensures { λ r. ⌜ SaysOpen (now (h .entry)) (now (b .entry)) r ⌝ }
 {
     if !formed(h, b) {
         return EINVAL;
@@ -255,7 +253,7 @@ pub fn is_open(h: &[u32], b: &[u8]) -> i32
 }
 
 pub fn is_resetting(h: &[u32], b: &[u8]) -> i32
-    ensures { λ r. ⌜ r ≡ looks layout (λ (p : Pipe). flag (p .resetting)) (now (h .entry)) (now (b .entry)) ⌝ }
+    ensures { λ r. ⌜ SaysResetting (now (h .entry)) (now (b .entry)) r ⌝ }
 {
     if !formed(h, b) {
         return EINVAL;
@@ -287,7 +285,7 @@ pub fn write_decide(
     actual_bytes: &mut u32,
     new_used: &mut u32,
 ) -> i32
-    ensures { λ r. ⌜ Decided (writeDecision used «size» flags «request_len» «has_reader») (now («actual_bytes» .entry)) (now («new_used» .entry)) r (now («actual_bytes» .exit)) (now («new_used» .exit)) ⌝ }
+    ensures { λ r. ⌜ WriteDecided used «size» flags «request_len» «has_reader» (now («actual_bytes» .entry)) (now («new_used» .entry)) r (now («actual_bytes» .exit)) (now («new_used» .exit)) ⌝ }
 {
     if !proper(used, size, flags) {
         return EINVAL;
@@ -330,7 +328,7 @@ pub fn read_decide(
     actual_bytes: &mut u32,
     new_used: &mut u32,
 ) -> i32
-    ensures { λ r. ⌜ Decided (readDecision used «size» flags «request_len» «has_writer») (now («actual_bytes» .entry)) (now («new_used» .entry)) r (now («actual_bytes» .exit)) (now («new_used» .exit)) ⌝ }
+    ensures { λ r. ⌜ ReadDecided used «size» flags «request_len» «has_writer» (now («actual_bytes» .entry)) (now («new_used» .entry)) r (now («actual_bytes» .exit)) (now («new_used» .exit)) ⌝ }
 {
     if !proper(used, size, flags) {
         return EINVAL;

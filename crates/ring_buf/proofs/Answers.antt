@@ -9,10 +9,11 @@ use lib.IntN.{pos}
 use lib.ListN.{length, take, drop, getD, set, drop-of-length-le}
 use lib.Seq.{paste}
 use Rattle.thread.specs.Code.{ok, eagain, einval}
-use Rattle.store.specs.Store.{answer, Becomes, Did, looks, handed, Filled, Started}
+use Rattle.store.specs.Store.{answer, Becomes, Did, looks, handed, Filled}
 use Rattle.store.proofs.Laws.{any-some, any-none, looks-is, handed-is, start-short, start-bad, start-made}
 use Rattle.ring_buf.specs.Ring.{wrap, turn}
-use Rattle.ring_buf.specs.Bytes.{sound, held, bytes, new, may, put, get, putMany, getMany, peek, reset, gotten, seen, sizeOf, spaceOf, capacityOf, headOf, tailOf, empty, full}
+use Rattle.ring_buf.specs.Bytes.{sound, held, bytes, new, get, getMany, peek, gotten, seen, sizeOf, spaceOf, capacityOf, headOf, tailOf, empty, full}
+use Rattle.ring_buf.specs.Post.{Starts, Puts, PutsN, Resets}
 use Rattle.ring_buf.proofs.Rings.{wrap-low}
 use Rattle.ring_buf.proofs.Parts.{beside}
 use Rattle.ring_buf.proofs.Headers.{Sound, is-sound, Words, words}
@@ -22,10 +23,10 @@ module _ (h b : List ℕ) (s : Sound h b) where
   abbrev w : Words h b
   w = words h b s
 
-  pub put-full : (x : ℕ) → getD h 2 0 ≡ getD h 0 0 → Did bytes (put x) h b eagain h b
+  pub put-full : (x : ℕ) → getD h 2 0 ≡ getD h 0 0 → Puts x h b eagain h b
   put-full = rw (w .is) (memory.put-full (w .c) (w .t) (w .n) (w .rest) b (w .start) (w .size) (w .room))
 
-  pub put-done : (x a : ℕ) → getD h 2 0 < getD h 0 0 → a ≡ wrap (getD h 1 0 + getD h 2 0) (getD h 0 0) → Did bytes (put x) h b ok (set h 2 (getD h 2 0 + 1)) (set b a x)
+  pub put-done : (x a : ℕ) → getD h 2 0 < getD h 0 0 → a ≡ wrap (getD h 1 0 + getD h 2 0) (getD h 0 0) → Puts x h b ok (set h 2 (getD h 2 0 + 1)) (set b a x)
   put-done = rw (w .is) (memory.put-done (w .c) (w .t) (w .n) (w .rest) b (w .start) (w .size) (w .room))
 
   pub get-empty : getD h 2 0 ≡ 0 → Did bytes get h b eagain h b
@@ -36,7 +37,7 @@ module _ (h b : List ℕ) (s : Sound h b) where
 
   -- with the words as they were read
   pub put-n-done : (c t n k : ℕ) (l b' : List ℕ) → c ≡ getD h 0 0 → t ≡ getD h 1 0 → n ≡ getD h 2 0 → k ≡ min (length l) (c - n) → length b' ≡ length b
-      → turn t (take c b') ≡ paste (turn t (take c b)) n (take k l) (length (take k l)) → drop c b' ≡ drop c b → Did bytes (putMany l) h b (pos k) (set h 2 (n + k)) b'
+      → turn t (take c b') ≡ paste (turn t (take c b)) n (take k l) (length (take k l)) → drop c b' ≡ drop c b → PutsN l h b (pos k) (set h 2 (n + k)) b'
   put-n-done c t n k l b' x y z =
       rw (x, y, z) (rw (w .is) (memory.put-n (w .c) (w .t) (w .n) (w .rest) b (w .start) (w .size) (w .room) k l b'))
 
@@ -51,7 +52,7 @@ module _ (h b : List ℕ) (s : Sound h b) where
   pub seen-is : (i a : ℕ) → i < getD h 2 0 → a ≡ wrap (getD h 1 0 + i) (getD h 0 0) → handed bytes (seen i) h b ≡ getD b a 0 ∷ []
   seen-is = rw (w .is) (memory.sees (w .c) (w .t) (w .n) (w .rest) b (w .start) (w .size) (w .room))
 
-  pub reset-done : Did bytes reset h b ok (set (set h 1 0) 2 0) b
+  pub reset-done : Resets h b ok (set (set h 1 0) 2 0)
   reset-done = rw (w .is) (memory.clears (w .c) (w .t) (w .n) (w .rest) b (w .start) (w .size) (w .room))
 
   pub held-is : length (held h b .held) ≡ getD h 2 0
@@ -117,16 +118,16 @@ module _ (h b : List ℕ) (s : Sound h b) where
 
 -- a new ring
 module _ (h b : List ℕ) (c : ℕ) where
-  pub no-header : length h < 3 → Started bytes (may c b) (new c b) h b einval h b
+  pub no-header : length h < 3 → Starts c h b einval h
   no-header f = start-short f
 
-  pub no-capacity : 3 ≤ length h → c ≡ 0 → Started bytes (may c b) (new c b) h b einval h b
+  pub no-capacity : 3 ≤ length h → c ≡ 0 → Starts c h b einval h
   no-capacity k e = start-bad k (rw (le-ltb 0 c (omega arith)))
 
-  pub no-buffer : 3 ≤ length h → 0 < c → length b < c → Started bytes (may c b) (new c b) h b einval h b
+  pub no-buffer : 3 ≤ length h → 0 < c → length b < c → Starts c h b einval h
   no-buffer k f g = start-bad k (rw (lt-ltb 0 c f, lt-leb c (length b) g))
 
-  pub made : 3 ≤ length h → 0 < c → c ≤ length b → Started bytes (may c b) (new c b) h b ok (set (set (set h 0 c) 1 0) 2 0) b
+  pub made : 3 ≤ length h → 0 < c → c ≤ length b → Starts c h b ok (set (set (set h 0 c) 1 0) 2 0)
   made k f g = start-made k (rw (lt-ltb 0 c f, le-leb c (length b) g)) (go h k)
     where
       go : (h : List ℕ) → 3 ≤ length h → Becomes bytes (new c b) h b (set (set (set h 0 c) 1 0) 2 0) b

@@ -9,11 +9,12 @@ use lib.IntN.{ℤ}
 use lib.ListN.{length, take, drop, length-append, length-take, length-drop, take-append-drop}
 use lib.Seq.{drop-at, length-take-le}
 use Rattle.thread.specs.Code.{ok}
-use Rattle.store.specs.Store.{answer, Did, looks, handed, first, Started}
+use Rattle.store.specs.Store.{answer, handed}
 use Rattle.store.specs.History.{Step, Ran, fresh, ran, Made, made}
 use Rattle.store.proofs.Histories.{did-look, first-filled, from-start, allowed}
 use Rattle.ring_buf.specs.Ring.{Ring}
-use Rattle.ring_buf.specs.Bytes.{bytes, new, may, get, peek, gotten, seen}
+use Rattle.ring_buf.specs.Bytes.{bytes, new, may, peek, gotten, seen}
+use Rattle.ring_buf.specs.Post.{Starts, Gets, PeeksAt}
 use Rattle.ring_buf.specs.Counters.{Counted}
 use Rattle.ring_buf.specs.History.{Call, getting, peeking, does, gives, got, line, puts, gets, Promise}
 use Rattle.ring_buf.proofs.Counting.{wrap-mod, agrees}
@@ -96,7 +97,7 @@ module _ (c : ℕ) (b : List ℕ) (m : may c b ≡ true) where
       }
 
 -- the same of a ring in memory, after an init that is answered 0
-pub from-init : (c : ℕ) {h b h₀ b₀ : List ℕ} → Started bytes (may c b) (new c b) h b ok h₀ b₀ → {ss : List (Step Call)} {h' b' : List ℕ} → Made bytes does gives h₀ b₀ ss h' b'
+pub from-init : (c : ℕ) {h b h₀ : List ℕ} → Starts c h b ok h₀ → {ss : List (Step Call)} {h' b' : List ℕ} → Made bytes does gives h₀ b ss h' b'
     → (bytes .formed h' b' ≡ true) × Promise c ss (bytes .object h' b')
 from-init c {b = b} s x = let a = from-start bytes does gives s x in (a .0, promised c b (allowed s) (a .1))
 
@@ -106,12 +107,10 @@ one false l = omega arith
 
 -- what get and peek_at ensure is a step too: the place for what is handed out is one byte
 module _ {h₀ b₀ h b : List ℕ} {ss : List (Step Call)} {r : ℤ} (x y : ℕ) (m : Made bytes does gives h₀ b₀ ss h b) where
-  pub get-made : {h' b' : List ℕ} → Did bytes get h b r h' b' → y ≡ first x (handed bytes (gotten 1) h b)
-      → Made bytes does gives h₀ b₀ (record { call = getting; answer = r; out = y ∷ [] } ∷ ss) h' b'
-  get-made d e = made (x ∷ []) (y ∷ []) m d (first-filled (handed bytes (gotten 1) h b) x y (one (bytes .formed h b) (bytes .object h b .held)) e)
+  pub get-made : {h' : List ℕ} → Gets h b x r h' y → Made bytes does gives h₀ b₀ (record { call = getting; answer = r; out = y ∷ [] } ∷ ss) h' b
+  get-made (d, e) = made (x ∷ []) (y ∷ []) m d (first-filled (handed bytes (gotten 1) h b) x y (one (bytes .formed h b) (bytes .object h b .held)) e)
 
-  pub peek-made : (i : ℕ) → r ≡ looks bytes (λ s. answer (peek i s)) h b → y ≡ first x (handed bytes (seen i) h b)
-      → Made bytes does gives h₀ b₀ (record { call = peeking i; answer = r; out = y ∷ [] } ∷ ss) h b
-  peek-made i e f =
+  pub peek-made : (i : ℕ) → PeeksAt i h b x r y → Made bytes does gives h₀ b₀ (record { call = peeking i; answer = r; out = y ∷ [] } ∷ ss) h b
+  peek-made i (e, f) =
       made (x ∷ []) (y ∷ []) m (did-look bytes (peek i) h b (λ s. peeked i s) e)
       (first-filled (handed bytes (seen i) h b) x y (one (bytes .formed h b) (drop i (bytes .object h b .held))) f)

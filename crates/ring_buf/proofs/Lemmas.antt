@@ -15,8 +15,9 @@ use lib.ListN.{length, drop, length-append}
 use Rattle.store.specs.Store.{left}
 use Rattle.ring_buf.specs.Ring.{Ring, wrap}
 use Rattle.ring_buf.specs.Bytes.{new}
-use Rattle.ring_buf.specs.Counters.{difference, offset, claimed, finishes, room, amount}
+use Rattle.ring_buf.specs.Counters.{difference, offset}
 use Rattle.ring_buf.specs.History.{does, gives}
+use Rattle.ring_buf.specs.Post.{ClaimDecided, FinishDecided, SpaceGetDecided, SizeGetDecided}
 use Rattle.ring_buf.specs.Upstream.{RingBuf, shown, Inv, WrappingSub, ClaimDecide, FinishDecide, SpaceGetDecide, SizeGetDecide, Whole, Inductive, PutGet, RingConsistency, Conservation, ResetEmpties, filled, drained, after, FillDrain}
 use Rattle.ring_buf.proofs.Rings.{by-lt, wrap-low, wrap-high, length-turn}
 use Rattle.ring_buf.proofs.Counting.{offset-none, offset-is, claimed-none, claimed-is}
@@ -43,7 +44,7 @@ module _ (a b : ℕ) (f : a < 4294967296) (g : b < 4294967296) where
       let e : d + b - 4294967296 ≡ a = sym (mod-eq-sub-mod h ∙ z) ∙ w .sum in
       rw (lt-leb b a (omega (arith, w .low))) (omega arith))
 
-  pub finish-decide : (n : ℕ) (r : Bool) → r ≡ finishes a b n → FinishDecide a b n r
+  pub finish-decide : (n : ℕ) (r : Bool) → FinishDecided a b n r → FinishDecide a b n r
   finish-decide n r e d w = go (leb n (difference a b)) refl
     where
       x : d ≡ difference a b
@@ -53,11 +54,11 @@ module _ (a b : ℕ) (f : a < 4294967296) (g : b < 4294967296) where
       go true k = inl (e ∙ k, omega (arith, x, leb-true n (difference a b) k))
       go false k = inr (e ∙ k, λ h. omega (arith, x, leb-false n (difference a b) k))
 
-  pub size-get-decide : (r : ℕ) → r ≡ amount a b → SizeGetDecide a b r
+  pub size-get-decide : (r : ℕ) → SizeGetDecided a b r → SizeGetDecide a b r
   size-get-decide r e = rw e difference-wraps
 
-pub claim-decide : (head base n asked r o : ℕ) → r ≡ claimed head base n asked → o ≡ offset head base n → ClaimDecide n asked r o
-claim-decide head base n asked r o x y = go (ℕ-discrete n 0)
+pub claim-decide : (head base n asked r o : ℕ) → ClaimDecided head base n asked r o → ClaimDecide n asked r o
+claim-decide head base n asked r o (x, y) = go (ℕ-discrete n 0)
   where
     go : Dec (n ≡ 0) → ClaimDecide n asked r o
     go (yes z) =
@@ -75,7 +76,7 @@ claim-decide head base n asked r o x y = go (ℕ-discrete n 0)
           fits = omega arith;
         }
 
-pub space-get-decide : (putHead getTail n r : ℕ) → r ≡ room putHead getTail n → SpaceGetDecide n r
+pub space-get-decide : (putHead getTail n r : ℕ) → SpaceGetDecided putHead getTail n r → SpaceGetDecide n r
 space-get-decide putHead getTail n r e = let d = difference putHead getTail in record { none-free = λ z. omega arith; fits = omega arith }
 
 -- ---- the lemmas

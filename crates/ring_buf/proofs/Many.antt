@@ -8,10 +8,11 @@ use lib.IntN.{ℤ, pos}
 use lib.ListN.{length, take, drop, getD, length-append, length-take, length-drop, take-append-drop}
 use lib.Seq.{take-at}
 use Rattle.thread.specs.Code.{ok}
-use Rattle.store.specs.Store.{accept, Did, handed, first, Filled}
+use Rattle.store.specs.Store.{accept, first}
 use Rattle.store.proofs.Laws.{any-some, became, answers, handed-is}
 use Rattle.ring_buf.specs.Ring.{Ring, wrap, append, leave}
 use Rattle.ring_buf.specs.Bytes.{held, bytes, put, get, putMany, getMany, gotten}
+use Rattle.ring_buf.specs.Post.{Puts, Gets, PutsN, GetsN}
 use Rattle.ring_buf.specs.Upstream.{RingBuf, struct, view, Inv, Housed, PutN, GetN, Stored, Taken}
 use Rattle.ring_buf.proofs.Rings.{wrap-below}
 use Rattle.ring_buf.proofs.Headers.{Sound, from-sound}
@@ -19,7 +20,7 @@ use Rattle.ring_buf.proofs.Answers.{held-is, spare-is}
 use Rattle.ring_buf.proofs.Parts.{take-least}
 use Rattle.ring_buf.proofs.Upstream.{inv, inv-formed, became-view}
 
-module _ (h b : List ℕ) (r : ℤ) (h' b' : List ℕ) (k : Housed h b) (i : Inv (view h)) where
+module _ (h b : List ℕ) (r : ℤ) (h' : List ℕ) (k : Housed h b) (i : Inv (view h)) where
   abbrev good : bytes .formed h b ≡ true
   good = inv-formed h b k i
 
@@ -29,8 +30,8 @@ module _ (h b : List ℕ) (r : ℤ) (h' b' : List ℕ) (k : Housed h b) (i : Inv
   abbrev is : ℕ → ℕ → RingBuf
   is t n = struct (getD h 0 0) t n
 
-  pub ring-put-n : (l : List ℕ) → Did bytes (putMany l) h b r h' b' → PutN (length l) (view h) r (view h')
-  ring-put-n l d =
+  pub ring-put-n : (l b' : List ℕ) → PutsN l h b r h' b' → PutN (length l) (view h) r (view h')
+  ring-put-n l b' d =
       let q = min (length l) (length (held h b .spare)) in
       let p = spare-is h b s in
       let n : length (held h b .held ++ take q l) ≡ getD h 2 0 + q = length-append (held h b .held) (take q l) ∙ omega (arith, held-is h b s, length-take q l) in
@@ -46,17 +47,17 @@ module _ (h b : List ℕ) (r : ℤ) (h' b' : List ℕ) (k : Housed h b) (i : Inv
         size = refl;
       })
 
-  pub ring-get-n : (count : ℕ) → Did bytes (getMany count) h b r h' b' → GetN count (view h) r (view h')
-  ring-get-n count d =
-      let q = min count (length (held h b .held)) in
+  pub ring-get-n : (o o' : List ℕ) → GetsN h b o r h' o' → GetN (length o) (view h) r (view h')
+  ring-get-n o o' (d, f) =
+      let q = min (length o) (length (held h b .held)) in
       let p = held-is h b s in
       let n : length (drop q (held h b .held)) ≡ getD h 2 0 - q = length-drop q (held h b .held) ∙ ap (λ (y : ℕ). y - q) p in
       let v : view h' ≡ is (wrap (getD h 1 0 + q) (getD h 0 0)) (getD h 2 0 - q) =
-      became-view (became bytes (getMany count) h b d good refl) ∙ ap (is (wrap (getD h 1 0 + q) (getD h 0 0))) n in
-      subst (λ (v' : RingBuf). GetN count (view h) r v') (sym v)
+      became-view (became bytes (getMany (length o)) h b d good refl) ∙ ap (is (wrap (getD h 1 0 + q) (getD h 0 0))) n in
+      subst (λ (v' : RingBuf). GetN (length o) (view h) r v') (sym v)
       (record {
         result = q;
-        is = answers bytes (getMany count) h b d good;
+        is = answers bytes (getMany (length o)) h b d good;
         inv = inv (getD h 0 0) (wrap (getD h 1 0 + q) (getD h 0 0)) (getD h 2 0 - q) (wrap-below (getD h 1 0 + q) (getD h 0 0) (omega arith)) (omega arith);
         room = refl;
         asked = omega arith;
@@ -65,14 +66,14 @@ module _ (h b : List ℕ) (r : ℤ) (h' b' : List ℕ) (k : Housed h b) (i : Inv
       })
 
   -- which bytes: all that there is room for, or that there are
-  pub put-stores : (x : ℕ) → getD h 2 0 < getD h 0 0 → Did bytes (put x) h b r h' b' → Stored (x ∷ []) (held h b) (held h' b')
-  put-stores x f d =
+  pub put-stores : (x : ℕ) (b' : List ℕ) → getD h 2 0 < getD h 0 0 → Puts x h b r h' b' → Stored (x ∷ []) (held h b) (held h' b')
+  put-stores x b' f d =
       let e : put x (held h b) ≡ accept (append (x ∷ []) (held h b)) ok = rw (any-some (held h b .spare) (omega (arith, spare-is h b s))) refl in
       record { held = ap (λ (r : Ring ℕ). r .held) (became bytes (put x) h b d good e .object) }
 
-  pub put-n-stores : (l : List ℕ) → Did bytes (putMany l) h b r h' b'
+  pub put-n-stores : (l b' : List ℕ) → PutsN l h b r h' b'
       → (r ≡ pos (min (length l) (getD h 0 0 - getD h 2 0))) × Stored (take (min (length l) (getD h 0 0 - getD h 2 0)) l) (held h b) (held h' b')
-  put-n-stores l d =
+  put-n-stores l b' d =
       let e = spare-is h b s in (
         answers bytes (putMany l) h b d good ∙ ap (λ (n : ℕ). pos (min (length l) n)) e,
         record {
@@ -80,8 +81,8 @@ module _ (h b : List ℕ) (r : ℤ) (h' b' : List ℕ) (k : Housed h b) (i : Inv
         },
       )
 
-  pub get-takes : (x y : ℕ) → 0 < getD h 2 0 → Did bytes get h b r h' b' → y ≡ first x (handed bytes (gotten 1) h b) → Taken (y ∷ []) (held h b) (held h' b')
-  get-takes x y f d q =
+  pub get-takes : (x y : ℕ) → 0 < getD h 2 0 → Gets h b x r h' y → Taken (y ∷ []) (held h b) (held h' b)
+  get-takes x y f (d, q) =
       let e : get (held h b) ≡ accept (leave 1 (held h b)) ok = rw (any-some (held h b .held) (omega (arith, held-is h b s))) refl in
       record {
         held =
@@ -93,9 +94,9 @@ module _ (h b : List ℕ) (r : ℤ) (h' b' : List ℕ) (k : Housed h b) (i : Inv
       whole [] f = absurd (omega arith)
       whole (z ∷ l) f = refl
 
-  pub get-n-takes : (o o' : List ℕ) → Did bytes (getMany (length o)) h b r h' b' → Filled (handed bytes (gotten (length o)) h b) o o'
-      → (r ≡ pos (min (length o) (getD h 2 0))) × Taken (take (min (length o) (getD h 2 0)) o') (held h b) (held h' b')
-  get-n-takes o o' d f =
+  pub get-n-takes : (o o' : List ℕ) → GetsN h b o r h' o'
+      → (r ≡ pos (min (length o) (getD h 2 0))) × Taken (take (min (length o) (getD h 2 0)) o') (held h b) (held h' b)
+  get-n-takes o o' (d, f) =
       let l = held h b .held in
       let q = min (length o) (length l) in
       let e : q ≡ min (length o) (getD h 2 0) = ap (min (length o)) (held-is h b s) in

@@ -13,6 +13,7 @@ use Rattle.store.specs.Store.{accept, Becomes, Did, handed, Filled}
 use Rattle.store.proofs.Laws.{any-some, any-none, did-no, did-yes, handed-is}
 use Rattle.ring_buf.specs.Ring.{Ring, wrap, turn, ring, append, leave}
 use Rattle.ring_buf.specs.Bytes.{sound, bytes, put, get, putMany, getMany, reset, gotten, seen}
+use Rattle.ring_buf.specs.Post.{Puts, PutsN, Resets}
 use Rattle.ring_buf.proofs.Rings.{by-lt, drop-take, wrap-below, length-turn, turn-part, appended, left, cleared, held-long, spare-long}
 use Rattle.ring_buf.proofs.Parts.{piece, beside}
 use Rattle.ring_buf.proofs.Headers.{is-sound, words}
@@ -57,10 +58,10 @@ module _ (c t n : ℕ) (rest b : List ℕ) (h : t < c) (size : n ≤ c) (room : 
         long = (refl, l);
       }
 
-  pub put-full : (x : ℕ) → n ≡ c → Did bytes (put x) H b eagain H b
+  pub put-full : (x : ℕ) → n ≡ c → Puts x H b eagain H b
   put-full x e = did-no bytes (put x) H b good (rw (any-none (drop n (turn t B)) (omega (arith, spared))) refl)
 
-  pub put-done : (x a : ℕ) → n < c → a ≡ wrap (t + n) c → Did bytes (put x) H b ok (c ∷ t ∷ (n + 1) ∷ rest) (set b a x)
+  pub put-done : (x a : ℕ) → n < c → a ≡ wrap (t + n) c → Puts x H b ok (c ∷ t ∷ (n + 1) ∷ rest) (set b a x)
   put-done x a f e =
       let w = wrap-below (t + n) c (omega arith) in
       let p = set-paste b a x (omega arith) in
@@ -79,7 +80,7 @@ module _ (c t n : ℕ) (rest b : List ℕ) (h : t < c) (size : n ≤ c) (room : 
       (ap (λ (x : ℕ). ring c x (n - 1) B) e ∙ left c t n B long h size 1 f))
 
   pub put-n : (k : ℕ) (s b' : List ℕ) → k ≡ min (length s) (c - n) → length b' ≡ length b → turn t (take c b') ≡ paste (turn t B) n (take k s) (length (take k s)) → drop c b' ≡ drop c b
-      → Did bytes (putMany s) H b (pos k) (c ∷ t ∷ (n + k) ∷ rest) b'
+      → PutsN s H b (pos k) (c ∷ t ∷ (n + k) ∷ rest) b'
   put-n k s b' e l w d =
       let m : length (take k s) ≡ k = length-take k s ∙ omega arith in
       let x : k ≡ min (length s) (length (drop n (turn t B))) = e ∙ ap (min (length s)) (sym spared) in
@@ -96,7 +97,7 @@ module _ (c t n : ℕ) (rest b : List ℕ) (h : t < c) (size : n ≤ c) (room : 
       (becomes t' (n - k) b (omega (arith, wrap-below (t + k) c (omega arith))) (omega arith) refl refl
       (ap (λ (y : ℕ). ring c y (n - k) B) w ∙ left c t n B long h size k (omega arith)))
 
-  pub clears : Did bytes reset H b ok (c ∷ 0 ∷ 0 ∷ rest) b
+  pub clears : Resets H b ok (c ∷ 0 ∷ 0 ∷ rest)
   clears = did-yes bytes reset H b good refl (becomes 0 0 b (omega arith) (omega arith) refl refl (cleared c t n B long h size))
 
   pub get-n-out : (o o' q : List ℕ) (k : ℕ) → k ≡ min (length o) n → q ≡ take (length (take k o)) (turn t B) → o' ≡ q ++ drop k o → Filled (handed bytes (gotten (length o)) H b) o o'

@@ -12,17 +12,18 @@ use lib.IntN.{ℤ}
 use lib.ListN.{length, getD}
 use Rattle.seq.proofs.Order.{cond-same}
 use Rattle.thread.specs.Code.{ok, einval}
-use Rattle.store.specs.Store.{Reply, answer, Did, looks, handed, first, Started}
+use Rattle.store.specs.Store.{Reply, Did, looks, first}
 use Rattle.store.proofs.Laws.{became, kept-bad, looks-bad}
 use Rattle.ring_buf.specs.Ring.{Ring, wrap}
-use Rattle.ring_buf.specs.Bytes.{bytes, new, may, peek, reset, seen, sizeOf, spaceOf, capacityOf, headOf, tailOf, empty, full}
+use Rattle.ring_buf.specs.Bytes.{bytes, may, reset}
+use Rattle.ring_buf.specs.Post.{Starts, PeeksAt, Resets, GetsSize, GetsSpace, GetsCapacity, SaysEmpty, SaysFull, GetsHead, GetsTail}
 use Rattle.ring_buf.specs.Upstream.{RingBuf, struct, view, Inv, Housed, Init, PeekAt, Reset, SizeGet, SpaceGet, CapacityGet, IsEmpty, IsFull, HeadGet, TailGet}
 use Rattle.ring_buf.proofs.Rings.{wrap-low, wrap-below}
 use Rattle.ring_buf.proofs.Headers.{Sound, from-sound}
 use Rattle.ring_buf.proofs.Answers.{peek-ok, peek-past, seen-is, size-told, space-told, capacity-told, head-told, tail-told, empty-told, some-told, full-told, free-told}
 use Rattle.ring_buf.proofs.Upstream.{inv, inv-formed, became-view}
 
-module _ (h b : List ℕ) (r : ℤ) (h' b' : List ℕ) (k : Housed h b) (i : Inv (view h)) where
+module _ (h b : List ℕ) (r : ℤ) (h' : List ℕ) (k : Housed h b) (i : Inv (view h)) where
   abbrev good : bytes .formed h b ≡ true
   good = inv-formed h b k i
 
@@ -32,7 +33,7 @@ module _ (h b : List ℕ) (r : ℤ) (h' b' : List ℕ) (k : Housed h b) (i : Inv
   abbrev is : ℕ → ℕ → RingBuf
   is t n = struct (getD h 0 0) t n
 
-  pub ring-reset : Did bytes reset h b r h' b' → Reset (view h) (view h')
+  pub ring-reset : Resets h b r h' → Reset (view h) (view h')
   ring-reset d =
       let v : view h' ≡ is 0 0 = became-view (became bytes reset h b d good refl) in
       subst (λ (v' : RingBuf). Reset (view h) v') (sym v)
@@ -44,8 +45,8 @@ module _ (h b : List ℕ) (r : ℤ) (h' b' : List ℕ) (k : Housed h b) (i : Inv
         tail = wrap-low 0 (getD h 0 0) (omega arith);
       })
 
-  pub ring-peek-at : (idx x y : ℕ) → r ≡ looks bytes (λ (t : Ring ℕ). answer (peek idx t)) h b → y ≡ first x (handed bytes (seen idx) h b) → PeekAt idx (view h) b r y
-  ring-peek-at idx x y d q =
+  pub ring-peek-at : (idx x y : ℕ) → PeeksAt idx h b x r y → PeekAt idx (view h) b r y
+  ring-peek-at idx x y (d, q) =
       record {
         done = λ f. d ∙ peek-ok h b s idx f;
         within = λ f. wrap-below (getD h 1 0 + idx) (getD h 0 0) (omega arith);
@@ -54,29 +55,29 @@ module _ (h b : List ℕ) (r : ℤ) (h' b' : List ℕ) (k : Housed h b) (i : Inv
       }
 
   -- functions that only read
-  pub size-get : r ≡ looks bytes sizeOf h b → SizeGet (view h) r
+  pub size-get : GetsSize h b r → SizeGet (view h) r
   size-get d = (d ∙ size-told h b s, s .size)
 
-  pub space-get : r ≡ looks bytes spaceOf h b → SpaceGet (view h) r
+  pub space-get : GetsSpace h b r → SpaceGet (view h) r
   space-get d = d ∙ space-told h b s
 
-  pub capacity-get : r ≡ looks bytes capacityOf h b → CapacityGet (view h) r
+  pub capacity-get : GetsCapacity h b r → CapacityGet (view h) r
   capacity-get d = (d ∙ capacity-told h b s, omega arith)
 
-  pub head-get : r ≡ looks bytes headOf h b → HeadGet (view h) r
+  pub head-get : GetsHead h b r → HeadGet (view h) r
   head-get d = d ∙ head-told h b s
 
-  pub tail-get : r ≡ looks bytes tailOf h b → TailGet (view h) r
+  pub tail-get : GetsTail h b r → TailGet (view h) r
   tail-get d = d ∙ tail-told h b s
 
-  pub is-empty : r ≡ looks bytes empty h b → IsEmpty (view h) r
+  pub is-empty : SaysEmpty h b r → IsEmpty (view h) r
   is-empty d = go (decEq (getD h 2 0) 0)
     where
       go : Dec (getD h 2 0 ≡ 0) → IsEmpty (view h) r
       go (yes e) = inl (d ∙ empty-told h b s e, e)
       go (no e) = inr (d ∙ some-told h b s e, e)
 
-  pub is-full : r ≡ looks bytes full h b → IsFull (view h) r
+  pub is-full : SaysFull h b r → IsFull (view h) r
   is-full d = go (decEq (getD h 2 0) (getD h 0 0))
     where
       go : Dec (getD h 2 0 ≡ getD h 0 0) → IsFull (view h) r
@@ -91,7 +92,7 @@ pub get-refuses : (f : Ring ℕ → ℤ) (h b : List ℕ) (r : ℤ) → bytes .f
 get-refuses f h b r e d = d ∙ looks-bad bytes h b f e
 
 -- upstream is lent no memory: here there has to be a header and a buffer for all
-module _ (h b : List ℕ) (c : ℕ) (r : ℤ) (h' b' : List ℕ) (s : Started bytes (may c b) (new c b) h b r h' b') where
+module _ (h b : List ℕ) (c : ℕ) (r : ℤ) (h' : List ℕ) (s : Starts c h b r h') where
   pub ring-init : 3 ≤ length h → c ≤ length b → Init c r (view h')
   ring-init w m = go (ltb 0 c) refl
     where
@@ -124,7 +125,7 @@ module _ (h b : List ℕ) (c : ℕ) (r : ℤ) (h' b' : List ℕ) (s : Started by
             refused = λ f. omega (arith, ltb-false 0 c e);
           }
 
-  pub init-refuses : may c b ≡ false → (r ≡ einval) × (h' ≡ h) × (b' ≡ b)
+  pub init-refuses : may c b ≡ false → (r ≡ einval) × (h' ≡ h)
   init-refuses e =
       let k : r ≡ einval = s .code ∙ rw e (cond-same (leb 3 (length h)) einval) in
-      (k, s .kept 21 k .0, s .kept 21 k .1)
+      (k, s .kept 21 k .0)

@@ -8,11 +8,12 @@ use borrow.Author.Tests.{lt-ltb, le-ltb}
 use lib.IntN.{ℤ}
 use lib.ListN.{length, drop, getD, length-append, length-drop}
 use Rattle.thread.specs.Code.{ok, eagain}
-use Rattle.store.specs.Store.{refuse, accept, answer, Becomes, Did, handed, first}
+use Rattle.store.specs.Store.{refuse, accept, answer, Becomes, first}
 use Rattle.store.proofs.Determined.{did-same}
 use Rattle.store.proofs.Laws.{any-some, any-none, became, answers, kept-no}
 use Rattle.ring_buf.specs.Ring.{Ring, wrap, append, leave}
-use Rattle.ring_buf.specs.Bytes.{held, bytes, put, get, gotten}
+use Rattle.ring_buf.specs.Bytes.{held, bytes, put, get}
+use Rattle.ring_buf.specs.Post.{Puts, Gets}
 use Rattle.ring_buf.specs.Upstream.{RingBuf, struct, view, shown, nextIdx, Consistent, Inv, Housed, Put, Get}
 use Rattle.ring_buf.proofs.Rings.{by-lt, wrap-low, wrap-high, wrap-below, wrap-wrap}
 use Rattle.ring_buf.proofs.Headers.{Sound, from-sound, is-sound}
@@ -56,7 +57,7 @@ pub became-view : {s : Ring ℕ} {h b h' b' : List ℕ} → Becomes bytes s h b 
 became-view {h' = h'} {b'} m =
     ap (λ (n : ℕ). struct (getD h' 0 0) (getD h' 1 0) n) (sym (held-is h' b' (from-sound h' b' (m .formed)))) ∙ ap shown (m .object)
 
-module _ (h b : List ℕ) (r : ℤ) (h' b' : List ℕ) (k : Housed h b) (i : Inv (view h)) where
+module _ (h b : List ℕ) (r : ℤ) (h' : List ℕ) (k : Housed h b) (i : Inv (view h)) where
   abbrev good : bytes .formed h b ≡ true
   good = inv-formed h b k i
 
@@ -66,8 +67,8 @@ module _ (h b : List ℕ) (r : ℤ) (h' b' : List ℕ) (k : Housed h b) (i : Inv
   abbrev is : ℕ → ℕ → RingBuf
   is t n = struct (getD h 0 0) t n
 
-  pub ring-put : (x : ℕ) → Did bytes (put x) h b r h' b' → Put x (view h) b r (view h') b'
-  ring-put x d = by-lt (getD h 2 0) (getD h 0 0) done full
+  pub ring-put : (x : ℕ) (b' : List ℕ) → Puts x h b r h' b' → Put x (view h) b r (view h') b'
+  ring-put x b' d = by-lt (getD h 2 0) (getD h 0 0) done full
     where
       done : getD h 2 0 < getD h 0 0 → Put x (view h) b r (view h') b'
       done f =
@@ -109,8 +110,8 @@ module _ (h b : List ℕ) (r : ℤ) (h' b' : List ℕ) (k : Housed h b) (i : Inv
             full-head = λ z. refl;
           })
 
-  pub ring-get : (x y : ℕ) → Did bytes get h b r h' b' → y ≡ first x (handed bytes (gotten 1) h b) → Get (view h) b r (view h') y
-  ring-get x y d q = by-lt 0 (getD h 2 0) done nothing
+  pub ring-get : (x y : ℕ) → Gets h b x r h' y → Get (view h) b r (view h') y
+  ring-get x y (d, q) = by-lt 0 (getD h 2 0) done nothing
     where
       done : 0 < getD h 2 0 → Get (view h) b r (view h') y
       done f =

@@ -4,13 +4,12 @@ use thread::EAGAIN;
 use thread::EINVAL;
 use thread::OK;
 ghost use mathlib.Core.Path.{_≡_};
-ghost use Prim.Native.Nat.{ℕ, _+_, _%_, _<_, _≤_, min};
+ghost use Prim.Native.Nat.{_+_, _%_, _<_, _≤_, min};
 ghost use lib.ListN.{length, take, drop};
 ghost use lib.Seq.{paste};
-ghost use Rattle.store.specs.Store.{answer, Did, looks, handed, Filled, first, Started};
-ghost use Rattle.ring_buf.specs.Ring.{Ring, wrap, turn};
-ghost use Rattle.ring_buf.specs.Counters.{difference, offset as startsAt, claimed, finishes, room, amount};
-ghost use Rattle.ring_buf.specs.Bytes.{sound, bytes, new, may, put as putByte, get as getByte, putMany, getMany, peek, reset as emptied, gotten, seen, sizeOf, spaceOf, capacityOf, headOf, tailOf, empty, full};
+ghost use Rattle.ring_buf.specs.Ring.{wrap, turn};
+ghost use Rattle.ring_buf.specs.Counters.{difference};
+ghost use Rattle.ring_buf.specs.Post.{Places, Copies, SaysFormed, Starts, Puts, Gets, PutsN, GetsN, PeeksAt, Resets, GetsSize, GetsSpace, GetsCapacity, SaysEmpty, SaysFull, GetsHead, GetsTail, ClaimDecided, FinishDecided, SpaceGetDecided, SizeGetDecided};
 
 fn least(a: usize, b: usize) -> usize
     ensures { λ r. ⌜ r ≡ min a b ⌝ }
@@ -20,7 +19,7 @@ fn least(a: usize, b: usize) -> usize
 
 // A place below twice n, round the end of n.
 pub fn place(x: usize, n: usize) -> usize
-    ensures { λ r. ⌜ r ≡ wrap x n ⌝ }
+    ensures { λ r. ⌜ Places x n r ⌝ }
 {
     if x < n { x } else { x - n }
 }
@@ -35,7 +34,7 @@ fn step(t: u32, n: u32) -> u32
 
 // The first of src, as many as dst has room for, go to the start of dst, one by one.
 fn plain(dst: &mut [u8], src: &[u8])
-    ensures { λ _. ⌜ Filled (take (length (now (dst .entry))) (now (src .entry))) (now (dst .entry)) (now (dst .exit)) ⌝ }
+    ensures { λ _. ⌜ Copies (now (dst .entry)) (now (src .entry)) (now (dst .exit)) ⌝ }
 {
     let n = least(src.len(), dst.len());
     let mut i = 0;
@@ -60,7 +59,7 @@ fn block(dst: &mut [u8], src: &[u8], i: usize, t: &mut [u8])
 // block ends at n, over what the one before it wrote.
 fn blocks(dst: &mut [u8], src: &[u8], n: usize, t: &mut [u8])
     requires { ⌜ (0 < length (now t)) × ((length (now t) ≤ n) × (n ≡ min (length (now src)) (length (now dst)))) ⌝ }
-    ensures { λ _. ⌜ Filled (take (length (now (dst .entry))) (now (src .entry))) (now (dst .entry)) (now (dst .exit)) ⌝ }
+    ensures { λ _. ⌜ Copies (now (dst .entry)) (now (src .entry)) (now (dst .exit)) ⌝ }
 {
     let k = t.len();
     let mut i = 0;
@@ -73,7 +72,7 @@ fn blocks(dst: &mut [u8], src: &[u8], n: usize, t: &mut [u8])
 
 // The first of src, as many as dst has room for, go to the start of dst.
 pub fn copy(dst: &mut [u8], src: &[u8])
-    ensures { λ _. ⌜ Filled (take (length (now (dst .entry))) (now (src .entry))) (now (dst .entry)) (now (dst .exit)) ⌝ }
+    ensures { λ _. ⌜ Copies (now (dst .entry)) (now (src .entry)) (now (dst .exit)) ⌝ }
 {
     let n = least(src.len(), dst.len());
     if 32 <= n {
@@ -144,7 +143,7 @@ fn drain(b: &[u8], c: usize, t: usize, out: &mut [u8])
 
 // Whether the header and the buffer are as they should be.
 pub fn formed(h: &[u32], b: &[u8]) -> bool
-    ensures { λ r. ⌜ r ≡ sound (now (h .entry)) (now (b .entry)) ⌝ }
+    ensures { λ r. ⌜ SaysFormed (now (h .entry)) (now (b .entry)) r ⌝ }
 {
     if h.len() < 3 {
         return false;
@@ -161,7 +160,7 @@ pub fn formed(h: &[u32], b: &[u8]) -> bool
 
 // OK; EINVAL: a capacity of 0, or above the buffer's length.
 pub fn init(h: &mut [u32], b: &[u8], capacity: u32) -> i32
-    ensures { λ r. ⌜ Started bytes (may capacity (now (b .entry))) (new capacity (now (b .entry))) (now (h .entry)) (now (b .entry)) r (now (h .exit)) (now (b .entry)) ⌝ }
+    ensures { λ r. ⌜ Starts capacity (now (h .entry)) (now (b .entry)) r (now (h .exit)) ⌝ }
 {
     if h.len() < 3 {
         return EINVAL;
@@ -180,7 +179,7 @@ pub fn init(h: &mut [u32], b: &[u8], capacity: u32) -> i32
 
 // OK: the byte is behind those that were held; EAGAIN: it is full.
 pub fn put(h: &mut [u32], b: &mut [u8], value: u8) -> i32
-    ensures { λ r. ⌜ Did bytes (putByte value) (now (h .entry)) (now (b .entry)) r (now (h .exit)) (now (b .exit)) ⌝ }
+    ensures { λ r. ⌜ Puts value (now (h .entry)) (now (b .entry)) r (now (h .exit)) (now (b .exit)) ⌝ }
 {
     if !formed(h, b) {
         return EINVAL;
@@ -198,8 +197,7 @@ pub fn put(h: &mut [u32], b: &mut [u8], value: u8) -> i32
 
 // OK: the first byte came out; EAGAIN: it is empty.
 pub fn get(h: &mut [u32], b: &[u8], value: &mut u8) -> i32
-    ensures { λ r. ⌜ Did bytes getByte (now (h .entry)) (now (b .entry)) r (now (h .exit)) (now (b .entry)) ⌝ }
-    ensures { λ r. ⌜ now (value .exit) ≡ first (now (value .entry)) (handed bytes (gotten 1) (now (h .entry)) (now (b .entry))) ⌝ }
+    ensures { λ r. ⌜ Gets (now (h .entry)) (now (b .entry)) (now (value .entry)) r (now (h .exit)) (now (value .exit)) ⌝ }
 {
     if !formed(h, b) {
         return EINVAL;
@@ -217,7 +215,7 @@ pub fn get(h: &mut [u32], b: &[u8], value: &mut u8) -> i32
 
 // How many went in, the first of src.
 pub fn put_n(h: &mut [u32], b: &mut [u8], src: &[u8]) -> i64
-    ensures { λ r. ⌜ Did bytes (putMany (now (src .entry))) (now (h .entry)) (now (b .entry)) r (now (h .exit)) (now (b .exit)) ⌝ }
+    ensures { λ r. ⌜ PutsN (now (src .entry)) (now (h .entry)) (now (b .entry)) r (now (h .exit)) (now (b .exit)) ⌝ }
 {
     if !formed(h, b) {
         return EINVAL as i64;
@@ -232,8 +230,7 @@ pub fn put_n(h: &mut [u32], b: &mut [u8], src: &[u8]) -> i64
 
 // How many came out, to the first of out.
 pub fn get_n(h: &mut [u32], b: &[u8], out: &mut [u8]) -> i64
-    ensures { λ r. ⌜ Did bytes (getMany (length (now (out .entry)))) (now (h .entry)) (now (b .entry)) r (now (h .exit)) (now (b .entry)) ⌝ }
-    ensures { λ r. ⌜ Filled (handed bytes (gotten (length (now (out .entry)))) (now (h .entry)) (now (b .entry))) (now (out .entry)) (now (out .exit)) ⌝ }
+    ensures { λ r. ⌜ GetsN (now (h .entry)) (now (b .entry)) (now (out .entry)) r (now (h .exit)) (now (out .exit)) ⌝ }
 {
     if !formed(h, b) {
         return EINVAL as i64;
@@ -250,8 +247,7 @@ pub fn get_n(h: &mut [u32], b: &[u8], out: &mut [u8]) -> i64
 
 // OK: the byte at idx is told; EINVAL: fewer are held.
 pub fn peek_at(h: &[u32], b: &[u8], idx: u32, value: &mut u8) -> i32
-    ensures { λ r. ⌜ r ≡ looks bytes (λ (s : Ring ℕ). answer (peek idx s)) (now (h .entry)) (now (b .entry)) ⌝ }
-    ensures { λ r. ⌜ now (value .exit) ≡ first (now (value .entry)) (handed bytes (seen idx) (now (h .entry)) (now (b .entry))) ⌝ }
+    ensures { λ r. ⌜ PeeksAt idx (now (h .entry)) (now (b .entry)) (now (value .entry)) r (now (value .exit)) ⌝ }
 {
     if !formed(h, b) {
         return EINVAL;
@@ -265,7 +261,7 @@ pub fn peek_at(h: &[u32], b: &[u8], idx: u32, value: &mut u8) -> i32
 
 // OK: it is empty, and the next byte goes to the buffer's start.
 pub fn reset(h: &mut [u32], b: &[u8]) -> i32
-    ensures { λ r. ⌜ Did bytes emptied (now (h .entry)) (now (b .entry)) r (now (h .exit)) (now (b .entry)) ⌝ }
+    ensures { λ r. ⌜ Resets (now (h .entry)) (now (b .entry)) r (now (h .exit)) ⌝ }
 {
     if !formed(h, b) {
         return EINVAL;
@@ -276,7 +272,7 @@ pub fn reset(h: &mut [u32], b: &[u8]) -> i32
 }
 
 pub fn size_get(h: &[u32], b: &[u8]) -> i64
-    ensures { λ r. ⌜ r ≡ looks bytes sizeOf (now (h .entry)) (now (b .entry)) ⌝ }
+    ensures { λ r. ⌜ GetsSize (now (h .entry)) (now (b .entry)) r ⌝ }
 {
     if !formed(h, b) {
         return EINVAL as i64;
@@ -285,7 +281,7 @@ pub fn size_get(h: &[u32], b: &[u8]) -> i64
 }
 
 pub fn space_get(h: &[u32], b: &[u8]) -> i64
-    ensures { λ r. ⌜ r ≡ looks bytes spaceOf (now (h .entry)) (now (b .entry)) ⌝ }
+    ensures { λ r. ⌜ GetsSpace (now (h .entry)) (now (b .entry)) r ⌝ }
 {
     if !formed(h, b) {
         return EINVAL as i64;
@@ -294,7 +290,7 @@ pub fn space_get(h: &[u32], b: &[u8]) -> i64
 }
 
 pub fn capacity_get(h: &[u32], b: &[u8]) -> i64
-    ensures { λ r. ⌜ r ≡ looks bytes capacityOf (now (h .entry)) (now (b .entry)) ⌝ }
+    ensures { λ r. ⌜ GetsCapacity (now (h .entry)) (now (b .entry)) r ⌝ }
 {
     if !formed(h, b) {
         return EINVAL as i64;
@@ -304,7 +300,7 @@ pub fn capacity_get(h: &[u32], b: &[u8]) -> i64
 
 // 1: nothing is held; 0.
 pub fn is_empty(h: &[u32], b: &[u8]) -> i32
-    ensures { λ r. ⌜ r ≡ looks bytes empty (now (h .entry)) (now (b .entry)) ⌝ }
+    ensures { λ r. ⌜ SaysEmpty (now (h .entry)) (now (b .entry)) r ⌝ }
 {
     if !formed(h, b) {
         return EINVAL;
@@ -314,7 +310,7 @@ pub fn is_empty(h: &[u32], b: &[u8]) -> i32
 
 // 1: nothing is free; 0.
 pub fn is_full(h: &[u32], b: &[u8]) -> i32
-    ensures { λ r. ⌜ r ≡ looks bytes full (now (h .entry)) (now (b .entry)) ⌝ }
+    ensures { λ r. ⌜ SaysFull (now (h .entry)) (now (b .entry)) r ⌝ }
 {
     if !formed(h, b) {
         return EINVAL;
@@ -324,7 +320,7 @@ pub fn is_full(h: &[u32], b: &[u8]) -> i32
 
 // The place of the first byte.
 pub fn head_get(h: &[u32], b: &[u8]) -> i64
-    ensures { λ r. ⌜ r ≡ looks bytes headOf (now (h .entry)) (now (b .entry)) ⌝ }
+    ensures { λ r. ⌜ GetsHead (now (h .entry)) (now (b .entry)) r ⌝ }
 {
     if !formed(h, b) {
         return EINVAL as i64;
@@ -334,7 +330,7 @@ pub fn head_get(h: &[u32], b: &[u8]) -> i64
 
 // The place to which the next byte goes.
 pub fn tail_get(h: &[u32], b: &[u8]) -> i64
-    ensures { λ r. ⌜ r ≡ looks bytes tailOf (now (h .entry)) (now (b .entry)) ⌝ }
+    ensures { λ r. ⌜ GetsTail (now (h .entry)) (now (b .entry)) r ⌝ }
 {
     if !formed(h, b) {
         return EINVAL as i64;
@@ -363,7 +359,7 @@ fn remainder(d: u32, n: u32) -> u32
 
 // How many bytes can be claimed in one piece, which starts at the offset.
 pub fn claim_decide(head: u32, base: u32, buf_size: u32, requested: u32, offset: &mut u32) -> u32
-    ensures { λ r. ⌜ (r ≡ claimed head base «buf_size» requested) × (now (offset .exit) ≡ startsAt head base «buf_size») ⌝ }
+    ensures { λ r. ⌜ ClaimDecided head base «buf_size» requested r (now (offset .exit)) ⌝ }
 {
     if buf_size == 0 {
         *offset = 0;
@@ -377,14 +373,14 @@ pub fn claim_decide(head: u32, base: u32, buf_size: u32, requested: u32, offset:
 
 // Whether so many bytes were claimed and not yet finished.
 pub fn finish_decide(head: u32, tail: u32, size: u32) -> bool
-    ensures { λ r. ⌜ r ≡ finishes head tail size ⌝ }
+    ensures { λ r. ⌜ FinishDecided head tail size r ⌝ }
 {
     size <= minus(head, tail)
 }
 
 // How many bytes are free.
 pub fn space_get_decide(put_head: u32, get_tail: u32, buf_size: u32) -> u32
-    ensures { λ r. ⌜ r ≡ room «put_head» «get_tail» «buf_size» ⌝ }
+    ensures { λ r. ⌜ SpaceGetDecided «put_head» «get_tail» «buf_size» r ⌝ }
 {
     let d = minus(put_head, get_tail);
     if buf_size < d { 0 } else { buf_size - d }
@@ -392,7 +388,7 @@ pub fn space_get_decide(put_head: u32, get_tail: u32, buf_size: u32) -> u32
 
 // How many bytes are held.
 pub fn size_get_decide(put_tail: u32, get_head: u32) -> u32
-    ensures { λ r. ⌜ r ≡ amount «put_tail» «get_head» ⌝ }
+    ensures { λ r. ⌜ SizeGetDecided «put_tail» «get_head» r ⌝ }
 {
     minus(put_tail, get_head)
 }

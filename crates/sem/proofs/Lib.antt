@@ -5,4 +5,5 @@ pub mod Histories
 pub mod Example
 pub mod Upstream
 pub mod Determined
+pub mod Border
 pub mod Forward

@@ -4,3 +4,4 @@ pub mod History
 pub mod Worked
 pub mod Upstream
 pub mod Determined
+pub mod Border

@@ -5,34 +5,31 @@ use mathlib.Core.List.{List}
 use Prim.Native.Nat.{ℕ, suc, _-_, _≤_, _<_}
 use native.Mathlib.Nat.{sub-zero}
 use native.Mathlib.Omega.{arith}
-use lib.IntN.{ℤ, pos}
+use lib.IntN.{pos}
 use lib.ListN.{length, getD, set, length-set}
 use lib.Seq.{drop-set-lt}
 use borrow.Author.Tests.{lt-ltb, le-ltb, le-leb, lt-leb, eq-eqb, ne-eqb}
 use Rattle.seq.specs.List.{back}
 use Rattle.seq.proofs.Back.{back-length}
 use Rattle.thread.specs.Code.{ok, enomem, ebusy, einval}
-use Rattle.store.specs.Store.{accept, Becomes, Did, looks, handed, first, Started}
+use Rattle.store.specs.Store.{accept, Becomes, Did, looks, handed, first}
 use Rattle.store.proofs.Laws.{did-no, did-yes, start-short, start-bad, start-made}
-use Rattle.stack.specs.Stack.{Stack, push, pop, popped, used, free, full, empty, fresh, may}
-use Rattle.stack.specs.Post.{place}
+use Rattle.stack.specs.Stack.{Stack, push, pop, popped, used, free, full, empty}
+use Rattle.stack.specs.Post.{Starts, Pushes, place}
 use Rattle.stack.proofs.Memory.{Sound, is-sound, becomes, counts, one-more, one-fewer}
 
 -- a new stack
 module _ (h w : List ℕ) (c : ℕ) where
-  abbrev Starts : ℤ → List ℕ → Type 0
-  Starts r h' = Started place (may c w) (fresh c w) h w r h' w
-
-  pub init-no-header : length h < 2 → Starts einval h
+  pub init-no-header : length h < 2 → Starts c h w einval h
   init-no-header k = start-short k
 
-  pub init-no-room : 2 ≤ length h → c ≡ 0 → Starts einval h
+  pub init-no-room : 2 ≤ length h → c ≡ 0 → Starts c h w einval h
   init-no-room k e = start-bad k (rw e)
 
-  pub init-no-memory : 2 ≤ length h → 0 < c → length w < c → Starts einval h
+  pub init-no-memory : 2 ≤ length h → 0 < c → length w < c → Starts c h w einval h
   init-no-memory k a b = start-bad k (rw (lt-ltb 0 c a, lt-leb c (length w) b))
 
-  pub init-made : 2 ≤ length h → 0 < c → c ≤ length w → Starts ok (set (set h 0 c) 1 0)
+  pub init-made : 2 ≤ length h → 0 < c → c ≤ length w → Starts c h w ok (set (set h 0 c) 1 0)
   init-made k a b = start-made k (rw (lt-ltb 0 c a, le-leb c (length w) b)) (rw (sub-zero c) at (becomes h w w c 0 k a (omega arith) b refl refl))
 
 module _ (h w : List ℕ) where
@@ -40,10 +37,10 @@ module _ (h w : List ℕ) where
     pub sound : Sound h w
     sound = is-sound h w s
 
-    pub push-full : (x : ℕ) → getD h 1 0 ≡ getD h 0 0 → Did place (push x) h w enomem h w
+    pub push-full : (x : ℕ) → getD h 1 0 ≡ getD h 0 0 → Pushes x h w enomem h w
     push-full x e = did-no place (push x) h w s (rw (back-length w (getD h 1 0), le-ltb (getD h 1 0) (getD h 0 0) (omega arith)))
 
-    pub pushed : (x : ℕ) → getD h 1 0 < getD h 0 0 → Did place (push x) h w ok (set h 1 (suc (getD h 1 0))) (set w (getD h 1 0) x)
+    pub pushed : (x : ℕ) → getD h 1 0 < getD h 0 0 → Pushes x h w ok (set h 1 (suc (getD h 1 0))) (set w (getD h 1 0) x)
     pushed x b =
         did-yes place (push x) h w s (rw (back-length w (getD h 1 0), lt-ltb (getD h 1 0) (getD h 0 0) b))
         (subst (λ (y : Stack). Becomes place y h w (set h 1 (suc (getD h 1 0))) (set w (getD h 1 0) x))

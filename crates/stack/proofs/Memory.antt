@@ -37,6 +37,13 @@ pub formed : (h w : List ℕ) → Sound h w → place .formed h w ≡ true
 formed h w s =
     rw (le-leb 2 (length h) (s .words), lt-ltb 0 (getD h 0 0) (s .some-room), le-leb (getD h 1 0) (getD h 0 0) (s .within), le-leb (getD h 0 0) (length w) (s .housed))
 
+pub malformed : (h w : List ℕ) → (Sound h w → ⊥) → place .formed h w ≡ false
+malformed h w n = go (place .formed h w) refl
+  where
+    go : (a : Bool) → place .formed h w ≡ a → a ≡ false
+    go true e = absurd (n (is-sound h w e))
+    go false e = refl
+
 -- what a stack that there can be shows
 pub may-is : (c : ℕ) (w : List ℕ) → may c w ≡ true → (0 < c) × (c ≤ length w)
 may-is c w = go (ltb 0 c) (leb c (length w)) refl refl

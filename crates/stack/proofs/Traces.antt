@@ -9,11 +9,11 @@ use lib.ListN.{length, take, getD, length-take}
 use Rattle.seq.specs.List.{back}
 use Rattle.seq.proofs.Back.{back-length}
 use Rattle.thread.specs.Code.{ok}
-use Rattle.store.specs.Store.{Did, handed, Filled, first, Started}
+use Rattle.store.specs.Store.{handed, Filled}
 use Rattle.store.specs.History.{Step, Made, made}
 use Rattle.store.proofs.Histories.{first-filled, from-start, allowed}
-use Rattle.stack.specs.Stack.{push, pop, popped, fresh, may}
-use Rattle.stack.specs.Post.{place}
+use Rattle.stack.specs.Stack.{popped}
+use Rattle.stack.specs.Post.{Starts, Pushes, Pops, place}
 use Rattle.stack.specs.History.{Call, pushing, popping, does, gives, Stands, Kept}
 use Rattle.stack.proofs.Histories.{promised}
 
@@ -32,16 +32,16 @@ word x d w n s = go n (s .over) (s .below) (s .is) (s .low)
     go (suc n) (o ∷ over) below e f = go n over below (cc) f
 
 -- after an init that is answered 0, and any calls
-pub from-init : (c : ℕ) {h w h₀ w₀ : List ℕ} → Started place (may c w) (fresh c w) h w ok h₀ w₀ → {ts : List (Step Call)} {h' w' : List ℕ}
-    → Made place does gives h₀ w₀ ts h' w' → Kept c ts h' w'
+pub from-init : (c : ℕ) {h w h₀ : List ℕ} → Starts c h w ok h₀ → {ts : List (Step Call)} {h' w' : List ℕ} → Made place does gives h₀ w ts h' w'
+    → Kept c ts h' w'
 from-init c {w = w} s {h' = h'} {w' = w'} m =
     let a = from-start place does gives s m in
     let p = promised c w (allowed s) (a .1) in
     record { formed = a .0; promise = p; word = λ x d l. word x d w' (getD h' 1 0) (p .stands x d l) }
 
 -- each function makes a step: what it ensures is what a step needs
-module _ {h₀ w₀ : List ℕ} {ts : List (Step Call)} {h w h' w' : List ℕ} {r : ℤ} (m : Made place does gives h₀ w₀ ts h w) where
-  pub push-made : (x : ℕ) → Did place (push x) h w r h' w' → Made place does gives h₀ w₀ (record { call = pushing x; answer = r; out = [] } ∷ ts) h' w'
+module _ {h₀ w₀ : List ℕ} {ts : List (Step Call)} {h w h' : List ℕ} {r : ℤ} (m : Made place does gives h₀ w₀ ts h w) where
+  pub push-made : (x : ℕ) {w' : List ℕ} → Pushes x h w r h' w' → Made place does gives h₀ w₀ (record { call = pushing x; answer = r; out = [] } ∷ ts) h' w'
   push-made x d = made [] [] m d (nothing (place .formed h w))
     where
       nothing : (b : Bool) → Filled (cond b (gives (pushing x) (place .object h w)) []) [] []
@@ -49,9 +49,8 @@ module _ {h₀ w₀ : List ℕ} {ts : List (Step Call)} {h w h' w' : List ℕ} {
       nothing false = refl
 
   -- x was in the word that is lent, and now y is
-  pub pop-made : (x y : ℕ) → Did place pop h w r h' w' → y ≡ first x (handed place popped h w)
-      → Made place does gives h₀ w₀ (record { call = popping; answer = r; out = y ∷ [] } ∷ ts) h' w'
-  pop-made x y d e = made (x ∷ []) (y ∷ []) m d (first-filled (handed place popped h w) x y (at-most (place .formed h w) (place .object h w .held)) e)
+  pub pop-made : (x y : ℕ) → Pops h w x r h' y → Made place does gives h₀ w₀ (record { call = popping; answer = r; out = y ∷ [] } ∷ ts) h' w
+  pop-made x y (d, e) = made (x ∷ []) (y ∷ []) m d (first-filled (handed place popped h w) x y (at-most (place .formed h w) (place .object h w .held)) e)
     where
       at-most : (b : Bool) (l : List ℕ) → length (cond b (take 1 l) []) ≤ 1
       at-most true l = omega (arith, length-take 1 l)

@@ -4,9 +4,8 @@ use thread::EINVAL;
 use thread::ENOMEM;
 use thread::OK;
 ghost use mathlib.Core.Path.{_≡_};
-ghost use Rattle.store.specs.Store.{Decided, Did, looks, handed, first, Started};
-ghost use Rattle.stack.specs.Stack.{pops, pushDecide, push, pop, popped, used, free, size, full, empty, fresh, may};
-ghost use Rattle.stack.specs.Post.{place};
+ghost use Rattle.stack.specs.Stack.{push, pop};
+ghost use Rattle.stack.specs.Post.{PushDecided, PopDecided, Starts, Pushes, Pops, CountsFree, CountsUsed, GetsCapacity, SaysFull, SaysEmpty, place};
 
 // What a push is to do, in the order of Gale's PushDecision.
 pub const STORE: i32 = 0;
@@ -34,7 +33,7 @@ fn formed(h: &[u32], w: &[u64]) -> bool
 
 // STORE; WAKE_WAITER: it is for the first that waits; ENOMEM: it is full. new_count is written unless it is refused.
 pub fn push_decide(count: u32, capacity: u32, has_waiter: bool, new_count: &mut u32) -> i32
-    ensures { λ r. ⌜ Decided (pushDecide count capacity «has_waiter») (now («new_count» .entry)) r (now («new_count» .exit)) ⌝ }
+    ensures { λ r. ⌜ PushDecided count capacity «has_waiter» (now («new_count» .entry)) r (now («new_count» .exit)) ⌝ }
 {
     if capacity == 0 {
         return EINVAL;
@@ -58,7 +57,7 @@ pub fn push_decide(count: u32, capacity: u32, has_waiter: bool, new_count: &mut 
 
 // OK: there is a word; WAITS; EBUSY: there is none, and the caller may not wait. new_count is written unless it is refused.
 pub fn pop_decide(count: u32, is_no_wait: bool, new_count: &mut u32) -> i32
-    ensures { λ r. ⌜ Decided (pops count «is_no_wait») (now («new_count» .entry)) r (now («new_count» .exit)) ⌝ }
+    ensures { λ r. ⌜ PopDecided count «is_no_wait» (now («new_count» .entry)) r (now («new_count» .exit)) ⌝ }
 {
     if count != 0 {
         *new_count = count - 1;
@@ -73,7 +72,7 @@ pub fn pop_decide(count: u32, is_no_wait: bool, new_count: &mut u32) -> i32
 
 // OK: it is empty; EINVAL: it could hold none, or more than there is memory for.
 pub fn init(h: &mut [u32], w: &[u64], capacity: u32) -> i32
-    ensures { λ r. ⌜ Started place (may capacity (now (w .entry))) (fresh capacity (now (w .entry))) (now (h .entry)) (now (w .entry)) r (now (h .exit)) (now (w .entry)) ⌝ }
+    ensures { λ r. ⌜ Starts capacity (now (h .entry)) (now (w .entry)) r (now (h .exit)) ⌝ }
 {
     if h.len() < 2 {
         return EINVAL;
@@ -91,14 +90,26 @@ pub fn init(h: &mut [u32], w: &[u64], capacity: u32) -> i32
 
 // OK: data is the last in; ENOMEM: it is full.
 pub fn push(h: &mut [u32], w: &mut [u64], data: u64) -> i32
-    ensures { λ r. ⌜ Did place (push «data») (now (h .entry)) (now (w .entry)) r (now (h .exit)) (now (w .exit)) ⌝ }
+    ensures { λ r. ⌜ Pushes «data» (now (h .entry)) (now (w .entry)) r (now (h .exit)) (now (w .exit)) ⌝ }
 {
-    if !formed(h, w) {
+    if h.len() < 2 {
         return EINVAL;
     }
     let n = h[1];
-    if n == h[0] {
+    if h[0] <= n {
+        if h[0] < n {
+            return EINVAL;
+        }
+        if n == 0 {
+            return EINVAL;
+        }
+        if w.len() < seq::wide(n) {
+            return EINVAL;
+        }
         return ENOMEM;
+    }
+    if w.len() < seq::wide(h[0]) {
+        return EINVAL;
     }
     w[seq::wide(n)] = data;
     h[1] = n + 1;
@@ -107,15 +118,23 @@ pub fn push(h: &mut [u32], w: &mut [u64], data: u64) -> i32
 
 // OK: data was the last in; EBUSY: it holds none.
 pub fn pop(h: &mut [u32], w: &[u64], data: &mut u64) -> i32
-    ensures { λ r. ⌜ Did place pop (now (h .entry)) (now (w .entry)) r (now (h .exit)) (now (w .entry)) ⌝ }
-    ensures { λ r. ⌜ now («data» .exit) ≡ first (now («data» .entry)) (handed place popped (now (h .entry)) (now (w .entry))) ⌝ }
+    ensures { λ r. ⌜ Pops (now (h .entry)) (now (w .entry)) (now («data» .entry)) r (now (h .exit)) (now («data» .exit)) ⌝ }
 {
-    if !formed(h, w) {
+    if h.len() < 2 {
         return EINVAL;
     }
     let n = h[1];
     if n == 0 {
-        return EBUSY;
+        if formed(h, w) {
+            return EBUSY;
+        }
+        return EINVAL;
+    }
+    if h[0] < n {
+        return EINVAL;
+    }
+    if w.len() < seq::wide(h[0]) {
+        return EINVAL;
     }
     h[1] = n - 1;
     *data = w[seq::wide(n - 1)];
@@ -123,7 +142,7 @@ pub fn pop(h: &mut [u32], w: &[u64], data: &mut u64) -> i32
 }
 
 pub fn num_free(h: &[u32], w: &[u64]) -> i64
-    ensures { λ r. ⌜ r ≡ looks place free (now (h .entry)) (now (w .entry)) ⌝ }
+    ensures { λ r. ⌜ CountsFree (now (h .entry)) (now (w .entry)) r ⌝ }
 {
     if !formed(h, w) {
         return -22;
@@ -132,7 +151,7 @@ pub fn num_free(h: &[u32], w: &[u64]) -> i64
 }
 
 pub fn num_used(h: &[u32], w: &[u64]) -> i64
-    ensures { λ r. ⌜ r ≡ looks place used (now (h .entry)) (now (w .entry)) ⌝ }
+    ensures { λ r. ⌜ CountsUsed (now (h .entry)) (now (w .entry)) r ⌝ }
 {
     if !formed(h, w) {
         return -22;
@@ -141,7 +160,7 @@ pub fn num_used(h: &[u32], w: &[u64]) -> i64
 }
 
 pub fn capacity(h: &[u32], w: &[u64]) -> i64
-    ensures { λ r. ⌜ r ≡ looks place size (now (h .entry)) (now (w .entry)) ⌝ }
+    ensures { λ r. ⌜ GetsCapacity (now (h .entry)) (now (w .entry)) r ⌝ }
 {
     if !formed(h, w) {
         return -22;
@@ -151,7 +170,7 @@ pub fn capacity(h: &[u32], w: &[u64]) -> i64
 
 // 1: yes; 0: no.
 pub fn is_full(h: &[u32], w: &[u64]) -> i32
-    ensures { λ r. ⌜ r ≡ looks place full (now (h .entry)) (now (w .entry)) ⌝ }
+    ensures { λ r. ⌜ SaysFull (now (h .entry)) (now (w .entry)) r ⌝ }
 {
     if !formed(h, w) {
         return EINVAL;
@@ -164,7 +183,7 @@ pub fn is_full(h: &[u32], w: &[u64]) -> i32
 
 // 1: yes; 0: no.
 pub fn is_empty(h: &[u32], w: &[u64]) -> i32
-    ensures { λ r. ⌜ r ≡ looks place empty (now (h .entry)) (now (w .entry)) ⌝ }
+    ensures { λ r. ⌜ SaysEmpty (now (h .entry)) (now (w .entry)) r ⌝ }
 {
     if !formed(h, w) {
         return EINVAL;

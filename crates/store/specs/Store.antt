@@ -85,6 +85,14 @@ abbrev pub first : ℕ → List ℕ → ℕ
 first x [] = x
 first x (y ∷ l) = y
 
+-- the operation f was done, and the buffer stays; what g says was handed out, to the place o
+abbrev pub Fills : {S : Type 0} → Place S → (S → Reply S) → (S → List ℕ) → List ℕ → List ℕ → List ℕ → ℤ → List ℕ → List ℕ → Type 0
+Fills P f g h b o r h' o' = Did P f h b r h' b × Filled (handed P g h b) o o'
+
+-- the first of it, to the word x
+abbrev pub Hands : {S : Type 0} → Place S → (S → Reply S) → (S → List ℕ) → List ℕ → List ℕ → ℕ → ℤ → List ℕ → ℕ → Type 0
+Hands P f g h b x r h' x' = Did P f h b r h' b × (x' ≡ first x (handed P g h b))
+
 -- a new object s, if it may be; refused, nothing changes
 pub record Started {S : Type 0} (P : Place S) (may : Bool) (s : S) (h b : List ℕ) (r : ℤ) (h' b' : List ℕ) : Type 0 where
   pub code : r ≡ cond (leb (P .words) (length h)) (cond may ok einval) einval

@@ -9,27 +9,23 @@ use lib.IntN.{ℤ, pos}
 use lib.ListN.{length, getD, set}
 use borrow.Author.Tests.{lt-ltb, le-ltb}
 use Rattle.thread.specs.Code.{ok, ebusy, einval}
-use Rattle.store.specs.Store.{Reply, refuse, accept, settled, reply, Did, looks, Started}
+use Rattle.store.specs.Store.{Reply, refuse, accept, settled, reply, Did, looks}
 use Rattle.store.proofs.Laws.{did-bad, did-no, did-yes, replies, replies-bad, start-short, start-bad, start-made}
-use Rattle.timeout.specs.Timeout.{Timeout, timeout, never, fires, right, addDecide, arm, add, abort, announce, until, remaining, expires, fresh, may}
-use Rattle.timeout.specs.Post.{place, asked}
+use Rattle.timeout.specs.Timeout.{Timeout, timeout, never, fires, right, addDecide, arm, add, abort, announce, until, remaining, expires}
+use Rattle.timeout.specs.Post.{Starts, Adds, Aborts, Announces, place, asked}
 use Rattle.timeout.proofs.Memory.{sound, wrote-all, wrote-due, wrote-active, wrote-clock, wrote-both}
 use Rattle.timeout.proofs.Numbers.{too-late, in-time, fires-idle, fires-early, fires-due, right-idle, right-ahead}
 use Rattle.timeout.proofs.Whole.{set-busy, set-no, set-is, abort-no, abort-is, announce-late, announce-quiet, announce-rings}
 
--- what an add is answered and writes: x is the word for the deadline
-abbrev Adds : (n : ℕ) → List ℕ → ℕ → ℤ → List ℕ → ℕ → Type 0
-Adds n h x r h' x' = Did place (add n) h [] r h' [] × (x' ≡ settled (λ (t : Timeout). t .deadline) (reply place (add n) h []) x)
-
 -- a new timeout
 module _ (h : List ℕ) (c : ℕ) where
-  pub init-short : length h < 3 → Started place (may c) (fresh c) h [] einval h []
+  pub init-short : length h < 3 → Starts c h einval h
   init-short k = start-short k
 
-  pub init-never : 3 ≤ length h → c ≡ never → Started place (may c) (fresh c) h [] einval h []
+  pub init-never : 3 ≤ length h → c ≡ never → Starts c h einval h
   init-never k e = start-bad k (rw e)
 
-  pub init-made : 3 ≤ length h → c < never → Started place (may c) (fresh c) h [] ok (set (set (set h 0 0) 1 0) 2 c) []
+  pub init-made : 3 ≤ length h → c < never → Starts c h ok (set (set (set h 0 0) 1 0) 2 c)
   init-made k b = start-made k (lt-ltb c never b) (wrote-all h k 0 0 c (right-idle 0 c b false refl))
 
 -- what is told of the header
@@ -105,10 +101,10 @@ module _ (h : List ℕ) (s : place .formed h [] ≡ true) where
           rw (replies place (add n) h [] s, is-set y k e),
         )
 
-  pub abort-none : getD h 1 0 ≡ 0 → Did place abort h [] einval h []
+  pub abort-none : getD h 1 0 ≡ 0 → Aborts h einval h
   abort-none k = did-no place abort h [] s (abort-no (getD h 0 0) (getD h 1 0) (getD h 2 0) k)
 
-  pub aborted : 0 < getD h 1 0 → Did place abort h [] ok (set h 1 0) []
+  pub aborted : 0 < getD h 1 0 → Aborts h ok (set h 1 0)
   aborted k =
       did-yes place abort h [] s (abort-is (getD h 0 0) (getD h 1 0) (getD h 2 0) k)
       (wrote-active h (sound h s .words) 0 (right-idle (getD h 0 0) (getD h 2 0) (sound h s .below) false refl))
@@ -117,25 +113,25 @@ module _ (h : List ℕ) (s : place .formed h [] ≡ true) where
     abbrev on : Bool
     on = ltb 0 (getD h 1 0)
 
-    pub announce-none : never - getD h 2 0 ≤ n → Did place (announce n) h [] einval h []
+    pub announce-none : never - getD h 2 0 ≤ n → Announces n h einval h
     announce-none k = did-no place (announce n) h [] s (announce-late (getD h 0 0) (getD h 1 0) (getD h 2 0) n k)
 
     module _ (k : n < never - getD h 2 0) where
-      quiet : fires on (getD h 0 0) (getD h 2 0 + n) ≡ false → right on (getD h 0 0) (getD h 2 0 + n) ≡ true → Did place (announce n) h [] ok (set h 2 (getD h 2 0 + n)) []
+      quiet : fires on (getD h 0 0) (getD h 2 0 + n) ≡ false → right on (getD h 0 0) (getD h 2 0 + n) ≡ true → Announces n h ok (set h 2 (getD h 2 0 + n))
       quiet e g =
           did-yes place (announce n) h [] s (announce-quiet (getD h 0 0) (getD h 1 0) (getD h 2 0) n k e)
           (wrote-clock h (sound h s .words) (getD h 2 0 + n) g)
 
-      pub announce-idle : getD h 1 0 ≡ 0 → Did place (announce n) h [] ok (set h 2 (getD h 2 0 + n)) []
+      pub announce-idle : getD h 1 0 ≡ 0 → Announces n h ok (set h 2 (getD h 2 0 + n))
       announce-idle e =
           let f : on ≡ false = le-ltb 0 (getD h 1 0) (omega arith) in
           quiet (fires-idle on (getD h 0 0) (getD h 2 0 + n) f) (right-idle (getD h 0 0) (getD h 2 0 + n) (omega arith) on f)
 
-      pub announce-early : getD h 2 0 + n < getD h 0 0 → Did place (announce n) h [] ok (set h 2 (getD h 2 0 + n)) []
+      pub announce-early : getD h 2 0 + n < getD h 0 0 → Announces n h ok (set h 2 (getD h 2 0 + n))
       announce-early e =
           quiet (fires-early on (getD h 0 0) (getD h 2 0 + n) e) (right-ahead (getD h 0 0) (getD h 2 0 + n) (omega arith) on (omega arith))
 
-      pub announce-fires : 0 < getD h 1 0 → getD h 0 0 ≤ getD h 2 0 + n → Did place (announce n) h [] (pos 1) (set (set h 2 (getD h 2 0 + n)) 1 0) []
+      pub announce-fires : 0 < getD h 1 0 → getD h 0 0 ≤ getD h 2 0 + n → Announces n h (pos 1) (set (set h 2 (getD h 2 0 + n)) 1 0)
       announce-fires e f =
           let g = fires-due on (getD h 0 0) (getD h 2 0 + n) (lt-ltb 0 (getD h 1 0) e) f (omega arith) in
           did-yes place (announce n) h [] s (announce-rings (getD h 0 0) (getD h 1 0) (getD h 2 0) n k g)

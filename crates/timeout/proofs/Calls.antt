@@ -18,23 +18,23 @@ use Rattle.timeout.specs.History.{Call, adding, addingAbsolute, addingFo
 use Rattle.timeout.proofs.Whole.{set-busy, set-no, set-is, abort-no, abort-is, announce-late, announce-quiet, announce-rings}
 
 -- the deadline x of a call that adds, with the clock at c
-pub data Adds (c : ℕ) : Call → ℕ → Type 0 where
-  relative : {n : ℕ} → Adds c (adding n) (c + n)
-  absolutely : {d : ℕ} → c ≤ d → Adds c (addingAbsolute d) d
-  forever : Adds c addingForever never
-  no-wait : Adds c addingNoWait 0
+pub data Addition (c : ℕ) : Call → ℕ → Type 0 where
+  relative : {n : ℕ} → Addition c (adding n) (c + n)
+  absolutely : {d : ℕ} → c ≤ d → Addition c (addingAbsolute d) d
+  forever : Addition c addingForever never
+  no-wait : Addition c addingNoWait 0
 
 -- the call, and the reply
 pub data Does (d a c : ℕ) : Call → Reply Timeout → Type 0 where
   refuses : {k : Call} (m : ℕ) → Does d a c k (refuse (negsuc m))
-  sets : {k : Call} {x : ℕ} → a ≡ 0 → Adds c k x → Does d a c k (accept (timeout x 1 c) ok)
+  sets : {k : Call} {x : ℕ} → a ≡ 0 → Addition c k x → Does d a c k (accept (timeout x 1 c) ok)
   aborts : 0 < a → Does d a c aborting (accept (timeout d 0 c) ok)
   moves-on : {n : ℕ} → c + n < never → fires (ltb 0 a) d (c + n) ≡ false → Does d a c (announcing n) (accept (timeout d a (c + n)) ok)
   rings : {n : ℕ} → c + n < never → fires (ltb 0 a) d (c + n) ≡ true → Does d a c (announcing n) (accept (timeout d 0 (c + n)) (pos 1))
 
 module _ (d a c : ℕ) where
   -- a deadline x, if the test b says so
-  which-set : {k : Call} (b : Bool) (x : ℕ) → (b ≡ true → Adds c k x) → (y : Reply ℕ) → y ≡ cond b (accept x ok) (refuse (negsuc 21)) → Does d a c k (arm y (timeout d a c))
+  which-set : {k : Call} (b : Bool) (x : ℕ) → (b ≡ true → Addition c k x) → (y : Reply ℕ) → y ≡ cond b (accept x ok) (refuse (negsuc 21)) → Does d a c k (arm y (timeout d a c))
   which-set {k} b x i y e = go (ltb 0 a) b refl refl e
     where
       go : (f p : Bool) → ltb 0 a ≡ f → b ≡ p → y ≡ cond p (accept x ok) (refuse (negsuc 21)) → Does d a c k (arm y (timeout d a c))

@@ -16,13 +16,13 @@ use Rattle.store.specs.History.{Event}
 use Rattle.timeout.specs.Timeout.{Timeout, timeout, never, fires}
 use Rattle.timeout.specs.History.{Call, announcing, ticked, moves, touches, firings, reached, Once, NeverReached, Forever, AtOnceReached, Quiet}
 use Rattle.timeout.proofs.Numbers.{fires-idle, fires-is}
-use Rattle.timeout.proofs.Calls.{Adds, relative, absolutely, forever, no-wait, Does, refuses, sets, aborts, moves-on, rings, holds}
+use Rattle.timeout.proofs.Calls.{Addition, relative, absolutely, forever, no-wait, Does, refuses, sets, aborts, moves-on, rings, holds}
 
 abbrev Untouched : List (Event Call) → Type 0
 Untouched es = All (λ e. touches e ≡ false) es
 
 -- what an add or an abort would do is not asked
-added : {P : Type 0} {c : ℕ} {k : Call} {x : ℕ} → Adds c k x → touches (record { call = k; answer = ok }) ≡ false → P
+added : {P : Type 0} {c : ℕ} {k : Call} {x : ℕ} → Addition c k x → touches (record { call = k; answer = ok }) ≡ false → P
 added relative e = clash e
 added (absolutely f) e = clash e
 added forever e = clash e

@@ -14,7 +14,7 @@ use Rattle.timeout.specs.Post.{place}
 use Rattle.timeout.specs.History.{Call, ticked, Plan, idle, due, plan, Shows, firesAt, Promise, Always}
 use Rattle.timeout.proofs.Whole.{set-busy, abort-no, announce-late}
 use Rattle.timeout.proofs.Memory.{sound}
-use Rattle.timeout.proofs.Calls.{Adds, relative, absolutely, forever, no-wait, Does, refuses, sets, aborts, moves-on, rings, holds}
+use Rattle.timeout.proofs.Calls.{Addition, relative, absolutely, forever, no-wait, Does, refuses, sets, aborts, moves-on, rings, holds}
 
 -- with the clock at c before the events es
 pub record Kept (c : ℕ) (es : List (Event Call)) (t : Timeout) : Type 0 where
@@ -27,7 +27,7 @@ shows-same idle d a c c' s = s
 shows-same (due x) d a c c' s = s
 
 -- a deadline is added, with the clock at b
-adds : (c : ℕ) (es : List (Event Call)) (b : ℕ) {k : Call} {x : ℕ} → b ≡ c + ticked es → Adds b k x → Kept c (record { call = k; answer = ok } ∷ es) (timeout x 1 b)
+adds : (c : ℕ) (es : List (Event Call)) (b : ℕ) {k : Call} {x : ℕ} → b ≡ c + ticked es → Addition b k x → Kept c (record { call = k; answer = ok } ∷ es) (timeout x 1 b)
 adds c es b e relative = record { clock = omega arith; shows = (omega arith, omega arith) }
 adds c es b e (absolutely f) = record { clock = omega arith; shows = (omega arith, refl) }
 adds c es b e forever = record { clock = omega arith; shows = (omega arith, refl) }

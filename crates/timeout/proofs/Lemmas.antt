@@ -13,9 +13,9 @@ use Rattle.timeout.specs.History.{Call}
 use Rattle.timeout.specs.Upstream.{Inv, Inductive, AddCorrect, AbortDeactivates, FiresExpired, NoOverflow, NeverExpires, AlwaysExpires, AddRoundtrip, TimepointRoundtrip, AbortThenAdd}
 use Rattle.timeout.proofs.Numbers.{in-time, fires-early, fires-due, fires-not, until-is}
 use Rattle.timeout.proofs.Whole.{set-is, abort-is, announce-quiet, announce-rings}
-use Rattle.timeout.proofs.Calls.{Adds, relative, absolutely, forever, no-wait, Does, refuses, sets, aborts, moves-on, rings, which}
+use Rattle.timeout.proofs.Calls.{Addition, relative, absolutely, forever, no-wait, Does, refuses, sets, aborts, moves-on, rings, which}
 
-inv-adds : (c : ℕ) {k : Call} {x : ℕ} → c < never → Adds c k x → Inv (timeout x 1 c)
+inv-adds : (c : ℕ) {k : Call} {x : ℕ} → c < never → Addition c k x → Inv (timeout x 1 c)
 inv-adds c b relative = record { tick = b; ahead = λ j. inr (omega arith) }
 inv-adds c b (absolutely e) = record { tick = b; ahead = λ j. inr e }
 inv-adds c b forever = record { tick = b; ahead = λ j. inr (omega arith) }

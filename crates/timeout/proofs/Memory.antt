@@ -4,14 +4,16 @@ use mathlib.Core.Bool.{Bool, true, false, cond}
 use mathlib.Core.List.{List, [], _∷_}
 use mathlib.Core.Logic.{_⊎_, inl, inr}
 use Prim.Native.Nat.{ℕ, _≤_, _<_}
+use native.Mathlib.Omega.{arith}
 use lib.Dec.{eqb, ltb, leb}
 use lib.ListN.{length, getD, set}
-use borrow.Author.Tests.{ltb-true, leb-true, eqb-true, lt-ltb, le-leb}
+use borrow.Author.Tests.{ltb-true, leb-true, eqb-true, lt-ltb, le-ltb, le-leb, lt-leb}
 use Rattle.store.specs.Store.{Becomes}
 use Rattle.store.proofs.Laws.{both-true}
 use Rattle.store.proofs.Histories.{three}
 use Rattle.timeout.specs.Timeout.{timeout, never, right}
 use Rattle.timeout.specs.Post.{place}
+use Rattle.timeout.proofs.Numbers.{right-idle, right-ahead}
 
 -- what a header that is as it should be shows
 pub record Sound (h : List ℕ) : Type 0 where
@@ -33,6 +35,25 @@ sound h e =
     let t = both-true (leb 3 (length h)) (right (ltb 0 (getD h 1 0)) (getD h 0 0) (getD h 2 0)) e in
     let u = right-is (ltb 0 (getD h 1 0)) (getD h 0 0) (getD h 2 0) (t .1) in
     record { words = leb-true 3 (length h) (t .0); below = u .0; ahead = λ k. u .1 (lt-ltb 0 (getD h 1 0) k) }
+
+-- which headers are as they should be, and which are not
+module _ (h : List ℕ) where
+  pub either : {P : Type 0} → (place .formed h [] ≡ true → P) → (place .formed h [] ≡ false → P) → P
+  either {P} f g = go (place .formed h []) refl
+    where
+      go : (b : Bool) → place .formed h [] ≡ b → P
+      go true e = f e
+      go false e = g e
+
+  pub short : length h < 3 → place .formed h [] ≡ false
+  short k = rw (lt-leb 3 (length h) k)
+
+  module _ (k : 3 ≤ length h) (b : getD h 2 0 < never) where
+    pub sound-idle : getD h 1 0 ≡ 0 → place .formed h [] ≡ true
+    sound-idle e = rw (le-leb 3 (length h) k) (right-idle (getD h 0 0) (getD h 2 0) b (ltb 0 (getD h 1 0)) (le-ltb 0 (getD h 1 0) (omega arith)))
+
+    pub sound-ahead : getD h 2 0 ≤ getD h 0 0 → place .formed h [] ≡ true
+    sound-ahead e = rw (le-leb 3 (length h) k) (right-ahead (getD h 0 0) (getD h 2 0) b (ltb 0 (getD h 1 0)) e)
 
 -- a header of three words, and another
 stands : (x y z d a c : ℕ) (t : List ℕ) → 3 ≤ length (x ∷ y ∷ z ∷ t) → right (ltb 0 a) d c ≡ true → Becomes place (timeout d a c) (x ∷ y ∷ z ∷ t) [] (d ∷ a ∷ c ∷ t) []

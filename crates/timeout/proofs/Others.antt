@@ -11,8 +11,8 @@ use borrow.Author.Tests.{ltb-true, ltb-false}
 use Rattle.thread.specs.Code.{ok, einval}
 use Rattle.store.specs.Store.{Reply, Decided, looks}
 use Rattle.store.proofs.Laws.{decided, declined, looks-bad}
-use Rattle.timeout.specs.Timeout.{Timeout, never, later, fires, right, addDecide, abortDecide, announceDecide}
-use Rattle.timeout.specs.Post.{place, asked}
+use Rattle.timeout.specs.Timeout.{Timeout, never, later, fires, right}
+use Rattle.timeout.specs.Post.{AddDecided, AbortDecided, AnnounceDecided, place, asked}
 use Rattle.timeout.specs.Upstream as upstream
 use Rattle.timeout.specs.Upstream.{Sum, AnnounceDecide}
 use Rattle.timeout.proofs.Numbers.{two-codes, not-one, in-time, too-late, fires-is, fires-not, announces-none, announces-quiet, announces-fires, decides-wrong, decides-right}
@@ -32,13 +32,13 @@ sums c n m r m' d = go (ltb (c + n) never) refl
         let y = declined (too-late ok c n (omega arith)) d in
         record { is = λ z. two-codes (sym z ∙ y .0); below = λ z. two-codes (sym z ∙ y .0); clock = λ z. two-codes (sym z ∙ y .0); code = λ f. y .0; over = λ f. k }
 
-pub add-decide : (c n m : ℕ) (r : ℤ) (m' : ℕ) → Decided (addDecide c n) m r m' → Sum c n r m'
+pub add-decide : (c n m : ℕ) (r : ℤ) (m' : ℕ) → AddDecided c n m r m' → Sum c n r m'
 add-decide c n m r m' d = sums c n m r m' d
 
-pub abort-decide : (b r : Bool) → r ≡ abortDecide b → upstream.AbortDecide b r
+pub abort-decide : (b r : Bool) → AbortDecided b r → upstream.AbortDecide b r
 abort-decide b r e = e
 
-module _ (c n d m : ℕ) (b : Bool) (r : ℤ) (m' : ℕ) (q : Decided (announceDecide b d c n) m r m') where
+module _ (c n d m : ℕ) (b : Bool) (r : ℤ) (m' : ℕ) (q : AnnounceDecided c n d b m r m') where
   pub announce-decide : right b d c ≡ true → AnnounceDecide c n d b r m'
   announce-decide i = go (ltb (c + n) never) (fires b d (c + n)) refl refl
     where

@@ -11,11 +11,11 @@ use lib.ListN.{length, getD}
 use borrow.Author.Tests.{ltb-true, lt-ltb, le-ltb, le-leb}
 use Rattle.seq.proofs.Order.{cond-same}
 use Rattle.thread.specs.Code.{ok, ebusy, einval}
-use Rattle.store.specs.Store.{Reply, accept, answer, left, settled, reply, Did, Started}
+use Rattle.store.specs.Store.{Reply, accept, answer, left, settled, Did}
 use Rattle.store.proofs.Laws.{answers, replies, kept-bad, kept-no}
 use Rattle.store.proofs.Histories.{done}
-use Rattle.timeout.specs.Timeout.{Timeout, timeout, never, atOnce, right, addDecide, absolute, arm, add, addAbsolute, addForever, addNoWait, abort, announce, fresh, may}
-use Rattle.timeout.specs.Post.{place}
+use Rattle.timeout.specs.Timeout.{Timeout, timeout, never, atOnce, right, addDecide, absolute, arm, add, addAbsolute, addForever, addNoWait, abort, announce}
+use Rattle.timeout.specs.Post.{Starts, Adds, AddsAbsolute, AddsForever, AddsNoWait, Aborts, Announces, place}
 use Rattle.timeout.specs.Upstream.{Inv, Init, Add, AddAbsolute, AddFixed, Abort, Announce}
 use Rattle.timeout.proofs.Numbers.{right-idle, right-at-once, right-ahead}
 use Rattle.timeout.proofs.Whole.{set-busy}
@@ -41,7 +41,7 @@ inv-formed h k i = rw (le-leb 3 (length h) k) (inv-right (getD h 0 0) (getD h 1 
 pub formed-inv : (h : List ℕ) → place .formed h [] ≡ true → (3 ≤ length h) × Inv (place .object h [])
 formed-inv h e = let s = sound h e in (s .words, record { tick = s .below; ahead = s .ahead })
 
-module _ (h h' : List ℕ) (c : ℕ) (r : ℤ) (s : Started place (may c) (fresh c) h [] r h' []) where
+module _ (h h' : List ℕ) (c : ℕ) (r : ℤ) (s : Starts c h r h') where
   pub timeout-init : 3 ≤ length h → c < never → (r ≡ ok) × Init c (place .object h' [])
   timeout-init k b =
       let e : r ≡ ok = s .code ∙ rw (le-leb 3 (length h) k, lt-ltb c never b) in
@@ -64,16 +64,16 @@ module _ (h h' : List ℕ) (r : ℤ) where
         (z .0, z .1)
 
     module _ (b : 0 < getD h 1 0) where
-      pub add-refuses : (n : ℕ) → Did place (add n) h [] r h' [] → (r ≡ ebusy) × (h' ≡ h)
-      add-refuses n d = busy (λ t. addDecide (t .clock) n) b d
+      pub add-refuses : (n m m' : ℕ) → Adds n h m r h' m' → (r ≡ ebusy) × (h' ≡ h)
+      add-refuses n m m' (d, _) = busy (λ t. addDecide (t .clock) n) b d
 
-      pub add-absolute-refuses : (x : ℕ) → Did place (addAbsolute x) h [] r h' [] → (r ≡ ebusy) × (h' ≡ h)
+      pub add-absolute-refuses : (x : ℕ) → AddsAbsolute x h r h' → (r ≡ ebusy) × (h' ≡ h)
       add-absolute-refuses x d = busy (λ t. absolute x (t .clock)) b d
 
-      pub add-forever-refuses : Did place addForever h [] r h' [] → (r ≡ ebusy) × (h' ≡ h)
+      pub add-forever-refuses : AddsForever h r h' → (r ≡ ebusy) × (h' ≡ h)
       add-forever-refuses d = busy (λ t. accept never ok) b d
 
-      pub add-no-wait-refuses : Did place addNoWait h [] r h' [] → (r ≡ ebusy) × (h' ≡ h)
+      pub add-no-wait-refuses : AddsNoWait h r h' → (r ≡ ebusy) × (h' ≡ h)
       add-no-wait-refuses d = busy (λ t. accept atOnce ok) b d
 
     -- what holds of the operation holds of the memory
@@ -85,28 +85,27 @@ module _ (h h' : List ℕ) (r : ℤ) where
         (subst (λ (z : ℤ). R z (left (f (place .object h [])) (place .object h []))) (sym (answers place f h [] d e)) a)
 
     module _ (z : getD h 1 0 ≡ 0) where
-      pub timeout-add : (n m m' : ℕ) → Did place (add n) h [] r h' [] → m' ≡ settled (λ (t : Timeout). t .deadline) (reply place (add n) h []) m
-          → Add n (place .object h []) r m' (place .object h' [])
-      timeout-add n m m' d e =
+      pub timeout-add : (n m m' : ℕ) → Adds n h m r h' m' → Add n (place .object h []) r m' (place .object h' [])
+      timeout-add n m m' (d, e) =
           let o : m' ≡ settled (λ (t : Timeout). t .deadline) (add n (place .object h [])) m = e ∙ rw (replies place (add n) h [] (inv-formed h k i)) in
           holds (add n) (λ y t. Add n (place .object h []) y m' t) d
           (rw o (adds (getD h 0 0) (getD h 1 0) (getD h 2 0) n m (i .tick) z))
 
-      pub timeout-add-absolute : (x : ℕ) → Did place (addAbsolute x) h [] r h' [] → AddAbsolute x (place .object h []) r (place .object h' [])
+      pub timeout-add-absolute : (x : ℕ) → AddsAbsolute x h r h' → AddAbsolute x (place .object h []) r (place .object h' [])
       timeout-add-absolute x d =
           holds (addAbsolute x) (AddAbsolute x (place .object h [])) d (adds-absolute (getD h 0 0) (getD h 1 0) (getD h 2 0) x (i .tick) z)
 
-      pub timeout-add-forever : Did place addForever h [] r h' [] → AddFixed never (place .object h []) (place .object h' [])
+      pub timeout-add-forever : AddsForever h r h' → AddFixed never (place .object h []) (place .object h' [])
       timeout-add-forever d =
           holds addForever (λ y t. AddFixed never (place .object h []) t) d
           (fixed (getD h 0 0) (getD h 1 0) (getD h 2 0) never (i .tick) z (inr (omega (arith, i .tick))))
 
-      pub timeout-add-no-wait : Did place addNoWait h [] r h' [] → AddFixed 0 (place .object h []) (place .object h' [])
+      pub timeout-add-no-wait : AddsNoWait h r h' → AddFixed 0 (place .object h []) (place .object h' [])
       timeout-add-no-wait d =
           holds addNoWait (λ y t. AddFixed 0 (place .object h []) t) d (fixed (getD h 0 0) (getD h 1 0) (getD h 2 0) 0 (i .tick) z (inl refl))
 
-    pub timeout-abort : Did place abort h [] r h' [] → Abort (place .object h []) r (place .object h' [])
+    pub timeout-abort : Aborts h r h' → Abort (place .object h []) r (place .object h' [])
     timeout-abort d = holds abort (Abort (place .object h [])) d (aborts (getD h 0 0) (getD h 1 0) (getD h 2 0) i)
 
-    pub timeout-announce : (n : ℕ) → Did place (announce n) h [] r h' [] → Announce n (place .object h []) r (place .object h' [])
+    pub timeout-announce : (n : ℕ) → Announces n h r h' → Announce n (place .object h []) r (place .object h' [])
     timeout-announce n d = holds (announce n) (Announce n (place .object h [])) d (announces (getD h 0 0) (getD h 1 0) (getD h 2 0) i n)

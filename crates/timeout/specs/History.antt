@@ -9,10 +9,10 @@ use lib.Signed.{mag}
 use lib.ListN.{getD}
 use Rattle.seq.specs.List.{All}
 use Rattle.thread.specs.Code.{ok, ebusy, einval}
-use Rattle.store.specs.Store.{Reply, refuse, answer, Started}
+use Rattle.store.specs.Store.{Reply, refuse, answer}
 use Rattle.store.specs.History.{refusal, Event, Run}
-use Rattle.timeout.specs.Timeout.{Timeout, never, atOnce, fires, arm, add, addAbsolute, addForever, addNoWait, abort, announce, fresh, may}
-use Rattle.timeout.specs.Post.{place}
+use Rattle.timeout.specs.Timeout.{Timeout, never, atOnce, fires, arm, add, addAbsolute, addForever, addNoWait, abort, announce}
+use Rattle.timeout.specs.Post.{Starts, place}
 
 -- the calls that change a timeout
 pub data Call : Type 0 where
@@ -89,7 +89,7 @@ pub record Promise (c : ℕ) (es : List (Event Call)) (t : Timeout) : Type 0 whe
 -- from any memory in which init made a timeout, h₀
 abbrev pub Always : Type 0
 Always =
-    (c : ℕ) (h h₀ h' : List ℕ) (es : List (Event Call)) → Started place (may c) (fresh c) h [] ok h₀ [] → Run place does h₀ [] es h' []
+    (c : ℕ) (h h₀ h' : List ℕ) (es : List (Event Call)) → Starts c h ok h₀ → Run place does h₀ [] es h' []
     → (place .formed h' [] ≡ true) × Promise c es (place .object h' [])
 
 -- the call is an announcement

@@ -4,9 +4,8 @@ use thread::EINVAL;
 use thread::OK;
 ghost use mathlib.Core.Path.{_≡_};
 ghost use mathlib.Core.List.{[]};
-ghost use Rattle.store.specs.Store.{settled, Decided, reply, Did, looks, Started};
-ghost use Rattle.timeout.specs.Timeout.{Timeout, right, until, addDecide, announceDecide, abortDecide, add, addAbsolute, addForever, addNoWait, abort, announce, remaining, expires, clockNow, timepointCalc, timepointTimeout, whetherActive, whetherForever, whetherNoWait, fresh, may};
-ghost use Rattle.timeout.specs.Post.{place, asked};
+ghost use Rattle.timeout.specs.Timeout.{right, until, add, abort, announce, remaining, expires};
+ghost use Rattle.timeout.specs.Post.{AddDecided, AbortDecided, AnnounceDecided, Starts, Adds, AddsAbsolute, AddsForever, AddsNoWait, Aborts, Announces, GetsRemaining, GetsExpiry, SaysActive, SaysForever, SaysNoWait, GetsNow, CalcsTimepoint, GetsTimepointTimeout, place};
 
 // The deadline that is never reached, and the one that is reached at once.
 pub const K_FOREVER_TICKS: u64 = 18446744073709551615;
@@ -57,7 +56,7 @@ fn until(tick: u64, clock: u64) -> u64
 
 // OK: the deadline is so many ticks after the clock; EINVAL: that would reach never.
 pub fn add_decide(current_tick: u64, duration: u64, deadline: &mut u64) -> i32
-    ensures { λ r. ⌜ Decided (addDecide «current_tick» duration) (now («deadline» .entry)) r (now («deadline» .exit)) ⌝ }
+    ensures { λ r. ⌜ AddDecided «current_tick» duration (now («deadline» .entry)) r (now («deadline» .exit)) ⌝ }
 {
     if K_FOREVER_TICKS - current_tick <= duration {
         return EINVAL;
@@ -68,7 +67,7 @@ pub fn add_decide(current_tick: u64, duration: u64, deadline: &mut u64) -> i32
 
 // Whether there is something to abort.
 pub fn abort_decide(is_active: bool) -> bool
-    ensures { λ r. ⌜ r ≡ abortDecide «is_active» ⌝ }
+    ensures { λ r. ⌜ AbortDecided «is_active» r ⌝ }
 {
     is_active
 }
@@ -81,7 +80,7 @@ pub fn announce_decide(
     active: bool,
     new_tick: &mut u64,
 ) -> i32
-    ensures { λ r. ⌜ Decided (announceDecide «active» deadline «current_tick» ticks) (now («new_tick» .entry)) r (now («new_tick» .exit)) ⌝ }
+    ensures { λ r. ⌜ AnnounceDecided «current_tick» ticks deadline «active» (now («new_tick» .entry)) r (now («new_tick» .exit)) ⌝ }
 {
     if !right(active, deadline, current_tick) {
         return EINVAL;
@@ -102,7 +101,7 @@ pub fn announce_decide(
 
 // OK: it is not active, and its clock is at current_tick.
 pub fn init(h: &mut [u64], current_tick: u64) -> i32
-    ensures { λ r. ⌜ Started place (may «current_tick») (fresh «current_tick») (now (h .entry)) [] r (now (h .exit)) [] ⌝ }
+    ensures { λ r. ⌜ Starts «current_tick» (now (h .entry)) r (now (h .exit)) ⌝ }
 {
     if h.len() < 3 {
         return EINVAL;
@@ -118,14 +117,16 @@ pub fn init(h: &mut [u64], current_tick: u64) -> i32
 
 // OK: it is active, with the deadline that is so many ticks after the clock; EBUSY: it is so already.
 pub fn add(h: &mut [u64], duration: u64, deadline: &mut u64) -> i32
-    ensures { λ r. ⌜ Did place (add «duration») (now (h .entry)) [] r (now (h .exit)) [] ⌝ }
-    ensures { λ r. ⌜ now («deadline» .exit) ≡ settled (λ (t : Timeout). t .deadline) (reply place (add «duration») (now (h .entry)) []) (now («deadline» .entry)) ⌝ }
+    ensures { λ r. ⌜ Adds «duration» (now (h .entry)) (now («deadline» .entry)) r (now (h .exit)) (now («deadline» .exit)) ⌝ }
 {
-    if !formed(h) {
+    if h.len() < 3 {
         return EINVAL;
     }
     if h[1] > 0 {
-        return EBUSY;
+        if formed(h) {
+            return EBUSY;
+        }
+        return EINVAL;
     }
     let clock = h[2];
     if K_FOREVER_TICKS - clock <= duration {
@@ -139,7 +140,7 @@ pub fn add(h: &mut [u64], duration: u64, deadline: &mut u64) -> i32
 
 // OK: it is active, with this deadline; EBUSY: it is active already; EINVAL: behind the clock, or never.
 pub fn add_absolute(h: &mut [u64], deadline: u64) -> i32
-    ensures { λ r. ⌜ Did place (addAbsolute «deadline») (now (h .entry)) [] r (now (h .exit)) [] ⌝ }
+    ensures { λ r. ⌜ AddsAbsolute «deadline» (now (h .entry)) r (now (h .exit)) ⌝ }
 {
     if !formed(h) {
         return EINVAL;
@@ -160,7 +161,7 @@ pub fn add_absolute(h: &mut [u64], deadline: u64) -> i32
 
 // OK: it is active, and never fires.
 pub fn add_forever(h: &mut [u64]) -> i32
-    ensures { λ r. ⌜ Did place addForever (now (h .entry)) [] r (now (h .exit)) [] ⌝ }
+    ensures { λ r. ⌜ AddsForever (now (h .entry)) r (now (h .exit)) ⌝ }
 {
     if !formed(h) {
         return EINVAL;
@@ -175,7 +176,7 @@ pub fn add_forever(h: &mut [u64]) -> i32
 
 // OK: it is active, and the next announcement fires it.
 pub fn add_no_wait(h: &mut [u64]) -> i32
-    ensures { λ r. ⌜ Did place addNoWait (now (h .entry)) [] r (now (h .exit)) [] ⌝ }
+    ensures { λ r. ⌜ AddsNoWait (now (h .entry)) r (now (h .exit)) ⌝ }
 {
     if !formed(h) {
         return EINVAL;
@@ -190,13 +191,18 @@ pub fn add_no_wait(h: &mut [u64]) -> i32
 
 // OK: it was active, and is not; EINVAL: it was not.
 pub fn abort(h: &mut [u64]) -> i32
-    ensures { λ r. ⌜ Did place abort (now (h .entry)) [] r (now (h .exit)) [] ⌝ }
+    ensures { λ r. ⌜ Aborts (now (h .entry)) r (now (h .exit)) ⌝ }
 {
-    if !formed(h) {
+    if h.len() < 3 {
         return EINVAL;
     }
     if h[1] == 0 {
         return EINVAL;
+    }
+    if h[0] <= h[2] {
+        if !formed(h) {
+            return EINVAL;
+        }
     }
     h[1] = 0;
     OK
@@ -204,9 +210,9 @@ pub fn abort(h: &mut [u64]) -> i32
 
 // The clock moves on. FIRED: it was active and due, and is not active; OK: it was not; EINVAL: the clock would reach never.
 pub fn announce(h: &mut [u64], ticks: u64) -> i32
-    ensures { λ r. ⌜ Did place (announce «ticks») (now (h .entry)) [] r (now (h .exit)) [] ⌝ }
+    ensures { λ r. ⌜ Announces «ticks» (now (h .entry)) r (now (h .exit)) ⌝ }
 {
-    if !formed(h) {
+    if h.len() < 3 {
         return EINVAL;
     }
     let clock = h[2];
@@ -214,21 +220,26 @@ pub fn announce(h: &mut [u64], ticks: u64) -> i32
         return EINVAL;
     }
     let n = clock + ticks;
-    let due = h[0];
-    let active = h[1];
+    if h[1] == 0 {
+        h[2] = n;
+        return OK;
+    }
+    if n < h[0] {
+        h[2] = n;
+        return OK;
+    }
+    if h[0] < clock {
+        if !formed(h) {
+            return EINVAL;
+        }
+    }
     h[2] = n;
-    if active == 0 {
-        return OK;
-    }
-    if n < due {
-        return OK;
-    }
     h[1] = 0;
     FIRED
 }
 
 pub fn remaining(h: &[u64], ticks: &mut u64) -> i32
-    ensures { λ r. ⌜ Decided (asked remaining (now (h .entry))) (now («ticks» .entry)) r (now («ticks» .exit)) ⌝ }
+    ensures { λ r. ⌜ GetsRemaining (now (h .entry)) (now («ticks» .entry)) r (now («ticks» .exit)) ⌝ }
 {
     if !formed(h) {
         return EINVAL;
@@ -242,7 +253,7 @@ pub fn remaining(h: &[u64], ticks: &mut u64) -> i32
 }
 
 pub fn expires(h: &[u64], tick: &mut u64) -> i32
-    ensures { λ r. ⌜ Decided (asked expires (now (h .entry))) (now («tick» .entry)) r (now («tick» .exit)) ⌝ }
+    ensures { λ r. ⌜ GetsExpiry (now (h .entry)) (now («tick» .entry)) r (now («tick» .exit)) ⌝ }
 {
     if !formed(h) {
         return EINVAL;
@@ -257,7 +268,7 @@ pub fn expires(h: &[u64], tick: &mut u64) -> i32
 
 // 1: yes; 0: no.
 pub fn is_active(h: &[u64]) -> i32
-    ensures { λ r. ⌜ r ≡ looks place whetherActive (now (h .entry)) [] ⌝ }
+    ensures { λ r. ⌜ SaysActive (now (h .entry)) r ⌝ }
 {
     if !formed(h) {
         return EINVAL;
@@ -270,7 +281,7 @@ pub fn is_active(h: &[u64]) -> i32
 
 // 1: yes; 0: no.
 pub fn is_forever(h: &[u64]) -> i32
-    ensures { λ r. ⌜ r ≡ looks place whetherForever (now (h .entry)) [] ⌝ }
+    ensures { λ r. ⌜ SaysForever (now (h .entry)) r ⌝ }
 {
     if !formed(h) {
         return EINVAL;
@@ -283,7 +294,7 @@ pub fn is_forever(h: &[u64]) -> i32
 
 // 1: yes; 0: no.
 pub fn is_no_wait(h: &[u64]) -> i32
-    ensures { λ r. ⌜ r ≡ looks place whetherNoWait (now (h .entry)) [] ⌝ }
+    ensures { λ r. ⌜ SaysNoWait (now (h .entry)) r ⌝ }
 {
     if !formed(h) {
         return EINVAL;
@@ -295,7 +306,7 @@ pub fn is_no_wait(h: &[u64]) -> i32
 }
 
 pub fn now(h: &[u64], tick: &mut u64) -> i32
-    ensures { λ r. ⌜ Decided (asked clockNow (now (h .entry))) (now («tick» .entry)) r (now («tick» .exit)) ⌝ }
+    ensures { λ r. ⌜ GetsNow (now (h .entry)) (now («tick» .entry)) r (now («tick» .exit)) ⌝ }
 {
     if !formed(h) {
         return EINVAL;
@@ -306,7 +317,7 @@ pub fn now(h: &[u64], tick: &mut u64) -> i32
 
 // OK: the timepoint is so many ticks after the clock; EINVAL: that would reach never.
 pub fn timepoint_calc(h: &[u64], duration: u64, timepoint: &mut u64) -> i32
-    ensures { λ r. ⌜ Decided (asked (timepointCalc «duration») (now (h .entry))) (now («timepoint» .entry)) r (now («timepoint» .exit)) ⌝ }
+    ensures { λ r. ⌜ CalcsTimepoint «duration» (now (h .entry)) (now («timepoint» .entry)) r (now («timepoint» .exit)) ⌝ }
 {
     if !formed(h) {
         return EINVAL;
@@ -321,7 +332,7 @@ pub fn timepoint_calc(h: &[u64], duration: u64, timepoint: &mut u64) -> i32
 
 // OK: the ticks from the clock to the timepoint.
 pub fn timepoint_timeout(h: &[u64], timepoint: u64, ticks: &mut u64) -> i32
-    ensures { λ r. ⌜ Decided (asked (timepointTimeout «timepoint») (now (h .entry))) (now («ticks» .entry)) r (now («ticks» .exit)) ⌝ }
+    ensures { λ r. ⌜ GetsTimepointTimeout «timepoint» (now (h .entry)) (now («ticks» .entry)) r (now («ticks» .exit)) ⌝ }
 {
     if !formed(h) {
         return EINVAL;

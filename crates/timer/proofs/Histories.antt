@@ -20,14 +20,14 @@ use Rattle.timer.specs.Post.{place}
 use Rattle.timer.specs.History.{Call, starting, stopping, expiring, reading, does, Promise, Always, Tally, expiries, reads, clears, NoneLost, Alike, CountOnly}
 
 -- an expiry counts, or is refused
-pub data Expires (s p x : ℕ) : Reply Timer → Type 0 where
-  counts : s < most → Expires s p x (accept (timer (suc s) p x) (pos (suc s)))
-  stays : most ≤ s → Expires s p x (refuse eoverflow)
+pub data Expiry (s p x : ℕ) : Reply Timer → Type 0 where
+  counts : s < most → Expiry s p x (accept (timer (suc s) p x) (pos (suc s)))
+  stays : most ≤ s → Expiry s p x (refuse eoverflow)
 
-pub which : (s p x : ℕ) → Expires s p x (expire (timer s p x))
+pub which : (s p x : ℕ) → Expiry s p x (expire (timer s p x))
 which s p x = go (ltb s most) refl
   where
-    go : (b : Bool) → ltb s most ≡ b → Expires s p x (expire (timer s p x))
+    go : (b : Bool) → ltb s most ≡ b → Expiry s p x (expire (timer s p x))
     go true e = rw e (counts (ltb-true s most e))
     go false e = rw e (stays (ltb-false s most e))
 
@@ -47,7 +47,7 @@ module _ (I : List (Event Call) → Timer → Type 0)
   keeps reading es t i = by-read es (t .status) (t .period) (t .running) i
   keeps expiring es t i = go (which (t .status) (t .period) (t .running))
     where
-      go : {y : Reply Timer} → Expires (t .status) (t .period) (t .running) y → I (record { call = expiring; answer = answer y } ∷ es) (left y t)
+      go : {y : Reply Timer} → Expiry (t .status) (t .period) (t .running) y → I (record { call = expiring; answer = answer y } ∷ es) (left y t)
       go (counts b) = by-expiry es (t .status) (t .period) (t .running) b i
       go (stays b) = by-refusal es (t .status) (t .period) (t .running) b i
 

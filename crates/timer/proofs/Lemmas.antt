@@ -10,16 +10,15 @@ use lib.Dec.{eqb}
 use lib.IntN.{ℤ, pos, negsuc}
 use borrow.Author.Tests.{lt-ltb, eqb-true, eqb-false}
 use Rattle.thread.specs.Upstream.{Tells}
-use Rattle.store.specs.Store.{Decided}
 use Rattle.store.proofs.Laws.{decided, declined}
 use Rattle.store.proofs.Histories.{done}
-use Rattle.timer.specs.Timer.{most, expireDecide}
-use Rattle.timer.specs.Post.{place}
+use Rattle.timer.specs.Timer.{most}
+use Rattle.timer.specs.Post.{ExpireDecided, place}
 use Rattle.timer.specs.History.{does}
 use Rattle.timer.specs.Upstream.{ExpireDecide, Inductive, Roundtrip, StartResets, StopClears, OverflowRejected, Classified}
 use Rattle.timer.proofs.Answers.{decide-most, decide-once, decide-again}
 
-module _ (s p m : ℕ) (r : ℤ) (m' : ℕ) (d : Decided (expireDecide s p) m r m') where
+module _ (s p m : ℕ) (r : ℤ) (m' : ℕ) (d : ExpireDecided s p m r m') where
   pub expire-decide : ExpireDecide s p m r m'
   expire-decide =
       record {

@@ -7,10 +7,10 @@ use lib.IntN.{ℤ, pos}
 use lib.Signed.{mag}
 use lib.ListN.{length, getD}
 use Rattle.seq.specs.List.{All}
-use Rattle.store.specs.Store.{Reply, answer, left, Did}
+use Rattle.store.specs.Store.{Reply, answer, left}
 use Rattle.store.specs.History.{refusal, Event, Run}
 use Rattle.timer.specs.Timer.{Timer, timer, most, start, stop, expire, statusGet}
-use Rattle.timer.specs.Post.{place}
+use Rattle.timer.specs.Post.{GetsStatus, place}
 
 -- the calls that change a timer
 pub data Call : Type 0 where
@@ -63,7 +63,7 @@ Always = (h h' : List ℕ) (es : List (Event Call)) → 3 ≤ length h → Run p
 abbrev pub Tally : Type 0
 Tally =
     (h h' h'' : List ℕ) (es : List (Event Call)) (r : ℤ) → 3 ≤ length h → getD h 0 0 ≡ 0 → Run place does h [] es h' [] → All (λ e. e .call ≡ expiring) es
-    → length es ≤ most → Did place statusGet h' [] r h'' [] → (r ≡ pos (length es)) × (getD h'' 0 0 ≡ 0)
+    → length es ≤ most → GetsStatus h' r h'' → (r ≡ pos (length es)) × (getD h'' 0 0 ≡ 0)
 
 -- how many expiries were not refused, and the sum of what the reads were answered
 abbrev pub added : Call → ℕ → ℕ

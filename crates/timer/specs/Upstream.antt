@@ -8,9 +8,9 @@ use Prim.Native.Nat.{ℕ, suc, _+_, _<_}
 use lib.IntN.{ℤ, pos}
 use Rattle.thread.specs.Code.{ok, eoverflow}
 use Rattle.thread.specs.Upstream.{Tells}
-use Rattle.store.specs.Store.{refuse, accept, answer, left, Did, Started}
-use Rattle.timer.specs.Timer.{Timer, timer, most, start, stop, expire, statusGet, expireDecide, fresh}
-use Rattle.timer.specs.Post.{place}
+use Rattle.store.specs.Store.{refuse, accept, answer, left, Did}
+use Rattle.timer.specs.Timer.{Timer, timer, most, start, stop, expire, statusGet, expireDecide}
+use Rattle.timer.specs.Post.{Starts, place}
 use Rattle.timer.specs.History.{Call, does}
 
 -- init
@@ -97,7 +97,7 @@ pub record ExpireDecide (status period m : ℕ) (r : ℤ) (m' : ℕ) : Type 0 wh
 
 -- lemma_invariant_inductive, which ends in `ensures true`. Its comments: init establishes inv, and each call preserves it
 pub record Inductive : Type 0 where
-  pub init : (p : ℕ) (h h' : List ℕ) → Started place true (fresh p) h [] ok h' [] → place .formed h' [] ≡ true
+  pub init : (p : ℕ) (h h' : List ℕ) → Starts p h ok h' → place .formed h' [] ≡ true
   pub calls : (k : Call) (h h' : List ℕ) (r : ℤ) → place .formed h [] ≡ true → Did place (does k) h [] r h' [] → place .formed h' [] ≡ true
 
 -- lemma_expire_status_get_roundtrip, of a status below u32::MAX

@@ -2,19 +2,15 @@
 use thread::EINVAL;
 use thread::EOVERFLOW;
 use thread::OK;
-ghost use mathlib.Core.Path.{_≡_};
-ghost use mathlib.Core.Bool.{true};
-ghost use mathlib.Core.List.{[]};
-ghost use Rattle.store.specs.Store.{Decided, Did, looks, Started};
-ghost use Rattle.timer.specs.Timer.{expireDecide, start, stop, expire, statusGet, count, ticks, runs, fresh};
-ghost use Rattle.timer.specs.Post.{place};
+ghost use Rattle.timer.specs.Timer.{start, stop, expire};
+ghost use Rattle.timer.specs.Post.{ExpireDecided, Starts, StartsRunning, Stops, Expires, GetsStatus, PeeksStatus, GetsPeriod, SaysRunning};
 
 // At this count an expiry is refused.
 pub const MOST: u32 = 4294967295;
 
 // 1: it is periodic; 0: it is not; EOVERFLOW: it expired MOST times. new_status is written unless it is refused.
 pub fn expire_decide(status: u32, period: u32, new_status: &mut u32) -> i32
-    ensures { λ r. ⌜ Decided (expireDecide status period) (now («new_status» .entry)) r (now («new_status» .exit)) ⌝ }
+    ensures { λ r. ⌜ ExpireDecided status period (now («new_status» .entry)) r (now («new_status» .exit)) ⌝ }
 {
     if status == MOST {
         return EOVERFLOW;
@@ -28,7 +24,7 @@ pub fn expire_decide(status: u32, period: u32, new_status: &mut u32) -> i32
 
 // OK: it does not run, and never expired.
 pub fn init(h: &mut [u32], period: u32) -> i32
-    ensures { λ r. ⌜ Started place true (fresh period) (now (h .entry)) [] r (now (h .exit)) [] ⌝ }
+    ensures { λ r. ⌜ Starts period (now (h .entry)) r (now (h .exit)) ⌝ }
 {
     if h.len() < 3 {
         return EINVAL;
@@ -40,7 +36,7 @@ pub fn init(h: &mut [u32], period: u32) -> i32
 }
 
 pub fn start(h: &mut [u32]) -> i32
-    ensures { λ r. ⌜ Did place start (now (h .entry)) [] r (now (h .exit)) [] ⌝ }
+    ensures { λ r. ⌜ StartsRunning (now (h .entry)) r (now (h .exit)) ⌝ }
 {
     if h.len() < 3 {
         return EINVAL;
@@ -51,7 +47,7 @@ pub fn start(h: &mut [u32]) -> i32
 }
 
 pub fn stop(h: &mut [u32]) -> i32
-    ensures { λ r. ⌜ Did place stop (now (h .entry)) [] r (now (h .exit)) [] ⌝ }
+    ensures { λ r. ⌜ Stops (now (h .entry)) r (now (h .exit)) ⌝ }
 {
     if h.len() < 3 {
         return EINVAL;
@@ -63,7 +59,7 @@ pub fn stop(h: &mut [u32]) -> i32
 
 // How often it expired, this time too; EOVERFLOW: MOST times already.
 pub fn expire(h: &mut [u32]) -> i64
-    ensures { λ r. ⌜ Did place expire (now (h .entry)) [] r (now (h .exit)) [] ⌝ }
+    ensures { λ r. ⌜ Expires (now (h .entry)) r (now (h .exit)) ⌝ }
 {
     if h.len() < 3 {
         return -22;
@@ -78,7 +74,7 @@ pub fn expire(h: &mut [u32]) -> i64
 
 // How often it expired; the count is 0 then.
 pub fn status_get(h: &mut [u32]) -> i64
-    ensures { λ r. ⌜ Did place statusGet (now (h .entry)) [] r (now (h .exit)) [] ⌝ }
+    ensures { λ r. ⌜ GetsStatus (now (h .entry)) r (now (h .exit)) ⌝ }
 {
     if h.len() < 3 {
         return -22;
@@ -89,7 +85,7 @@ pub fn status_get(h: &mut [u32]) -> i64
 }
 
 pub fn status_peek(h: &[u32]) -> i64
-    ensures { λ r. ⌜ r ≡ looks place count (now (h .entry)) [] ⌝ }
+    ensures { λ r. ⌜ PeeksStatus (now (h .entry)) r ⌝ }
 {
     if h.len() < 3 {
         return -22;
@@ -98,7 +94,7 @@ pub fn status_peek(h: &[u32]) -> i64
 }
 
 pub fn period_get(h: &[u32]) -> i64
-    ensures { λ r. ⌜ r ≡ looks place ticks (now (h .entry)) [] ⌝ }
+    ensures { λ r. ⌜ GetsPeriod (now (h .entry)) r ⌝ }
 {
     if h.len() < 3 {
         return -22;
@@ -108,7 +104,7 @@ pub fn period_get(h: &[u32]) -> i64
 
 // 1: yes; 0: no.
 pub fn is_running(h: &[u32]) -> i32
-    ensures { λ r. ⌜ r ≡ looks place runs (now (h .entry)) [] ⌝ }
+    ensures { λ r. ⌜ SaysRunning (now (h .entry)) r ⌝ }
 {
     if h.len() < 3 {
         return EINVAL;

@@ -1,99 +1,93 @@
 // Pipes: the header's four words, and the bytes.
-ghost use mathlib.Core.Path.{_≡_};
-ghost use lib.ListN.{length};
-ghost use Rattle.store.specs.Store.{Did, looks, handed, Filled, Started};
-ghost use Rattle.ring_buf.specs.Bytes.{may};
-ghost use Rattle.pipe.specs.Pipe.{Pipe, write, read, taken, reset, close, clearReset};
-ghost use Rattle.pipe.specs.Post.{layout, new, size as sizeOf, data-held, space, isEmpty, isFull, flag, writeDecision, readDecision, Decided};
+ghost use Rattle.pipe.specs.Post.{Starts, Writes, Reads, Resets, Closes, ClearsReset, GetsSpace, GetsData, GetsSize, SaysEmpty, SaysFull, SaysOpen, SaysResetting, WriteDecided, ReadDecided};
 
 #[no_mangle]
 pub extern "C" fn wq_pipe_init(head: &mut [u32; 4], buf: &[u8], size: u32) -> i32
-    ensures { λ r. ⌜ Started layout (may size (now (buf .entry))) (new size (now (buf .entry))) (now (head .entry)) (now (buf .entry)) r (now (head .exit)) (now (buf .entry)) ⌝ }
+    ensures { λ r. ⌜ Starts size (now (head .entry)) (now (buf .entry)) r (now (head .exit)) ⌝ }
 {
     pipe::init(head, buf, size)
 }
 
 #[no_mangle]
 pub extern "C" fn wq_pipe_write(head: &mut [u32; 4], buf: &mut [u8], src: &[u8]) -> i64
-    ensures { λ r. ⌜ Did layout (write (now (src .entry))) (now (head .entry)) (now (buf .entry)) r (now (head .exit)) (now (buf .exit)) ⌝ }
+    ensures { λ r. ⌜ Writes (now (src .entry)) (now (head .entry)) (now (buf .entry)) r (now (head .exit)) (now (buf .exit)) ⌝ }
 {
     pipe::write(head, buf, src)
 }
 
 #[no_mangle]
 pub extern "C" fn wq_pipe_read(head: &mut [u32; 4], buf: &[u8], out: &mut [u8]) -> i64
-    ensures { λ r. ⌜ Did layout (read (length (now (out .entry)))) (now (head .entry)) (now (buf .entry)) r (now (head .exit)) (now (buf .entry)) ⌝ }
-    ensures { λ r. ⌜ Filled (handed layout (taken (length (now (out .entry)))) (now (head .entry)) (now (buf .entry))) (now (out .entry)) (now (out .exit)) ⌝ }
+    ensures { λ r. ⌜ Reads (now (head .entry)) (now (buf .entry)) (now (out .entry)) r (now (head .exit)) (now (out .exit)) ⌝ }
 {
     pipe::read(head, buf, out)
 }
 
 #[no_mangle]
 pub extern "C" fn wq_pipe_reset(head: &mut [u32; 4], buf: &[u8]) -> i32
-    ensures { λ r. ⌜ Did layout reset (now (head .entry)) (now (buf .entry)) r (now (head .exit)) (now (buf .entry)) ⌝ }
+    ensures { λ r. ⌜ Resets (now (head .entry)) (now (buf .entry)) r (now (head .exit)) ⌝ }
 {
     pipe::reset(head, buf)
 }
 
 #[no_mangle]
 pub extern "C" fn wq_pipe_close(head: &mut [u32; 4], buf: &[u8]) -> i32
-    ensures { λ r. ⌜ Did layout close (now (head .entry)) (now (buf .entry)) r (now (head .exit)) (now (buf .entry)) ⌝ }
+    ensures { λ r. ⌜ Closes (now (head .entry)) (now (buf .entry)) r (now (head .exit)) ⌝ }
 {
     pipe::close(head, buf)
 }
 
 #[no_mangle]
 pub extern "C" fn wq_pipe_clear_reset(head: &mut [u32; 4], buf: &[u8]) -> i32
-    ensures { λ r. ⌜ Did layout clearReset (now (head .entry)) (now (buf .entry)) r (now (head .exit)) (now (buf .entry)) ⌝ }
+    ensures { λ r. ⌜ ClearsReset (now (head .entry)) (now (buf .entry)) r (now (head .exit)) ⌝ }
 {
     pipe::clear_reset(head, buf)
 }
 
 #[no_mangle]
 pub extern "C" fn wq_pipe_space_get(head: &[u32; 4], buf: &[u8]) -> i64
-    ensures { λ r. ⌜ r ≡ looks layout space (now (head .entry)) (now (buf .entry)) ⌝ }
+    ensures { λ r. ⌜ GetsSpace (now (head .entry)) (now (buf .entry)) r ⌝ }
 {
     pipe::space_get(head, buf)
 }
 
 #[no_mangle]
 pub extern "C" fn wq_pipe_data_get(head: &[u32; 4], buf: &[u8]) -> i64
-    ensures { λ r. ⌜ r ≡ looks layout data-held (now (head .entry)) (now (buf .entry)) ⌝ }
+    ensures { λ r. ⌜ GetsData (now (head .entry)) (now (buf .entry)) r ⌝ }
 {
     pipe::data_get(head, buf)
 }
 
 #[no_mangle]
 pub extern "C" fn wq_pipe_size(head: &[u32; 4], buf: &[u8]) -> i64
-    ensures { λ r. ⌜ r ≡ looks layout sizeOf (now (head .entry)) (now (buf .entry)) ⌝ }
+    ensures { λ r. ⌜ GetsSize (now (head .entry)) (now (buf .entry)) r ⌝ }
 {
     pipe::size(head, buf)
 }
 
 #[no_mangle]
 pub extern "C" fn wq_pipe_is_empty(head: &[u32; 4], buf: &[u8]) -> i32
-    ensures { λ r. ⌜ r ≡ looks layout isEmpty (now (head .entry)) (now (buf .entry)) ⌝ }
+    ensures { λ r. ⌜ SaysEmpty (now (head .entry)) (now (buf .entry)) r ⌝ }
 {
     pipe::is_empty(head, buf)
 }
 
 #[no_mangle]
 pub extern "C" fn wq_pipe_is_full(head: &[u32; 4], buf: &[u8]) -> i32
-    ensures { λ r. ⌜ r ≡ looks layout isFull (now (head .entry)) (now (buf .entry)) ⌝ }
+    ensures { λ r. ⌜ SaysFull (now (head .entry)) (now (buf .entry)) r ⌝ }
 {
     pipe::is_full(head, buf)
 }
 
 #[no_mangle]
 pub extern "C" fn wq_pipe_is_open(head: &[u32; 4], buf: &[u8]) -> i32
-    ensures { λ r. ⌜ r ≡ looks layout (λ (p : Pipe). flag (p .opened)) (now (head .entry)) (now (buf .entry)) ⌝ }
+    ensures { λ r. ⌜ SaysOpen (now (head .entry)) (now (buf .entry)) r ⌝ }
 {
     pipe::is_open(head, buf)
 }
 
 #[no_mangle]
 pub extern "C" fn wq_pipe_is_resetting(head: &[u32; 4], buf: &[u8]) -> i32
-    ensures { λ r. ⌜ r ≡ looks layout (λ (p : Pipe). flag (p .resetting)) (now (head .entry)) (now (buf .entry)) ⌝ }
+    ensures { λ r. ⌜ SaysResetting (now (head .entry)) (now (buf .entry)) r ⌝ }
 {
     pipe::is_resetting(head, buf)
 }
@@ -108,7 +102,7 @@ pub extern "C" fn wq_pipe_write_decide(
     actual_bytes: &mut u32,
     new_used: &mut u32,
 ) -> i32
-    ensures { λ r. ⌜ Decided (writeDecision used «size» flags «request_len» «has_reader») (now («actual_bytes» .entry)) (now («new_used» .entry)) r (now («actual_bytes» .exit)) (now («new_used» .exit)) ⌝ }
+    ensures { λ r. ⌜ WriteDecided used «size» flags «request_len» «has_reader» (now («actual_bytes» .entry)) (now («new_used» .entry)) r (now («actual_bytes» .exit)) (now («new_used» .exit)) ⌝ }
 {
     pipe::write_decide(
         used,
@@ -131,7 +125,7 @@ pub extern "C" fn wq_pipe_read_decide(
     actual_bytes: &mut u32,
     new_used: &mut u32,
 ) -> i32
-    ensures { λ r. ⌜ Decided (readDecision used «size» flags «request_len» «has_writer») (now («actual_bytes» .entry)) (now («new_used» .entry)) r (now («actual_bytes» .exit)) (now («new_used» .exit)) ⌝ }
+    ensures { λ r. ⌜ ReadDecided used «size» flags «request_len» «has_writer» (now («actual_bytes» .entry)) (now («new_used» .entry)) r (now («actual_bytes» .exit)) (now («new_used» .exit)) ⌝ }
 {
     pipe::read_decide(
         used,

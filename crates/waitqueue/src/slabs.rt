@@ -1,9 +1,6 @@
 // Memory slabs: the header's four words, and the links.
-ghost use mathlib.Core.Path.{_≡_};
 ghost use Prim.Native.Nat.{_-_};
-ghost use lib.IntN.{pos};
-ghost use Rattle.mem_slab.specs.Slab.{Slab};
-ghost use Rattle.mem_slab.specs.Post.{Allocs, Frees, sees, isFull, isEmpty, Starts, AllocDecided, FreeDecided};
+ghost use Rattle.mem_slab.specs.Post.{CountsUsed, CountsFree, CountsBlocks, GetsBlockSize, SaysFull, SaysEmpty, Allocs, Frees, Starts, AllocDecided, FreeDecided};
 
 #[no_mangle]
 pub extern "C" fn wq_mem_slab_init(
@@ -33,42 +30,42 @@ pub extern "C" fn wq_mem_slab_free(head: &mut [u32; 4], link: &mut [u32], block:
 
 #[no_mangle]
 pub extern "C" fn wq_mem_slab_num_used_get(head: &[u32; 4], link: &[u32]) -> i64
-    ensures { λ r. ⌜ r ≡ sees (λ (s : Slab). pos (s .used)) (now (head .entry)) (now (link .entry)) ⌝ }
+    ensures { λ r. ⌜ CountsUsed (now (head .entry)) (now (link .entry)) r ⌝ }
 {
     mem_slab::num_used_get(head, link)
 }
 
 #[no_mangle]
 pub extern "C" fn wq_mem_slab_num_free_get(head: &[u32; 4], link: &[u32]) -> i64
-    ensures { λ r. ⌜ r ≡ sees (λ (s : Slab). pos (s .blocks - s .used)) (now (head .entry)) (now (link .entry)) ⌝ }
+    ensures { λ r. ⌜ CountsFree (now (head .entry)) (now (link .entry)) r ⌝ }
 {
     mem_slab::num_free_get(head, link)
 }
 
 #[no_mangle]
 pub extern "C" fn wq_mem_slab_num_blocks_get(head: &[u32; 4], link: &[u32]) -> i64
-    ensures { λ r. ⌜ r ≡ sees (λ (s : Slab). pos (s .blocks)) (now (head .entry)) (now (link .entry)) ⌝ }
+    ensures { λ r. ⌜ CountsBlocks (now (head .entry)) (now (link .entry)) r ⌝ }
 {
     mem_slab::num_blocks_get(head, link)
 }
 
 #[no_mangle]
 pub extern "C" fn wq_mem_slab_block_size_get(head: &[u32; 4], link: &[u32]) -> i64
-    ensures { λ r. ⌜ r ≡ sees (λ (s : Slab). pos (s .size)) (now (head .entry)) (now (link .entry)) ⌝ }
+    ensures { λ r. ⌜ GetsBlockSize (now (head .entry)) (now (link .entry)) r ⌝ }
 {
     mem_slab::block_size_get(head, link)
 }
 
 #[no_mangle]
 pub extern "C" fn wq_mem_slab_is_full(head: &[u32; 4], link: &[u32]) -> i32
-    ensures { λ r. ⌜ r ≡ sees isFull (now (head .entry)) (now (link .entry)) ⌝ }
+    ensures { λ r. ⌜ SaysFull (now (head .entry)) (now (link .entry)) r ⌝ }
 {
     mem_slab::is_full(head, link)
 }
 
 #[no_mangle]
 pub extern "C" fn wq_mem_slab_is_empty(head: &[u32; 4], link: &[u32]) -> i32
-    ensures { λ r. ⌜ r ≡ sees isEmpty (now (head .entry)) (now (link .entry)) ⌝ }
+    ensures { λ r. ⌜ SaysEmpty (now (head .entry)) (now (link .entry)) r ⌝ }
 {
     mem_slab::is_empty(head, link)
 }

@@ -1,20 +1,16 @@
 // Timeouts: the header's three words.
-ghost use mathlib.Core.Path.{_≡_};
-ghost use mathlib.Core.List.{[]};
-ghost use Rattle.store.specs.Store.{settled, Decided, reply, Did, looks, Started};
-ghost use Rattle.timeout.specs.Timeout.{Timeout, addDecide, announceDecide, abortDecide, add, addAbsolute, addForever, addNoWait, abort, announce, remaining, expires, clockNow, timepointCalc, timepointTimeout, whetherActive, whetherForever, whetherNoWait, fresh, may};
-ghost use Rattle.timeout.specs.Post.{place, asked};
+ghost use Rattle.timeout.specs.Post.{AddDecided, AbortDecided, AnnounceDecided, Starts, Adds, AddsAbsolute, AddsForever, AddsNoWait, Aborts, Announces, GetsRemaining, GetsExpiry, SaysActive, SaysForever, SaysNoWait, GetsNow, CalcsTimepoint, GetsTimepointTimeout};
 
 #[no_mangle]
 pub extern "C" fn wq_timeout_add_decide(current_tick: u64, duration: u64, deadline: &mut u64) -> i32
-    ensures { λ r. ⌜ Decided (addDecide «current_tick» duration) (now («deadline» .entry)) r (now («deadline» .exit)) ⌝ }
+    ensures { λ r. ⌜ AddDecided «current_tick» duration (now («deadline» .entry)) r (now («deadline» .exit)) ⌝ }
 {
     timeout::add_decide(current_tick, duration, deadline)
 }
 
 #[no_mangle]
 pub extern "C" fn wq_timeout_abort_decide(is_active: bool) -> bool
-    ensures { λ r. ⌜ r ≡ abortDecide «is_active» ⌝ }
+    ensures { λ r. ⌜ AbortDecided «is_active» r ⌝ }
 {
     timeout::abort_decide(is_active)
 }
@@ -27,99 +23,98 @@ pub extern "C" fn wq_timeout_announce_decide(
     active: bool,
     new_tick: &mut u64,
 ) -> i32
-    ensures { λ r. ⌜ Decided (announceDecide «active» deadline «current_tick» ticks) (now («new_tick» .entry)) r (now («new_tick» .exit)) ⌝ }
+    ensures { λ r. ⌜ AnnounceDecided «current_tick» ticks deadline «active» (now («new_tick» .entry)) r (now («new_tick» .exit)) ⌝ }
 {
     timeout::announce_decide(current_tick, ticks, deadline, active, new_tick)
 }
 
 #[no_mangle]
 pub extern "C" fn wq_timeout_init(head: &mut [u64; 3], current_tick: u64) -> i32
-    ensures { λ r. ⌜ Started place (may «current_tick») (fresh «current_tick») (now (head .entry)) [] r (now (head .exit)) [] ⌝ }
+    ensures { λ r. ⌜ Starts «current_tick» (now (head .entry)) r (now (head .exit)) ⌝ }
 {
     timeout::init(head, current_tick)
 }
 
 #[no_mangle]
 pub extern "C" fn wq_timeout_add(head: &mut [u64; 3], duration: u64, deadline: &mut u64) -> i32
-    ensures { λ r. ⌜ Did place (add «duration») (now (head .entry)) [] r (now (head .exit)) [] ⌝ }
-    ensures { λ r. ⌜ now («deadline» .exit) ≡ settled (λ (t : Timeout). t .deadline) (reply place (add «duration») (now (head .entry)) []) (now («deadline» .entry)) ⌝ }
+    ensures { λ r. ⌜ Adds «duration» (now (head .entry)) (now («deadline» .entry)) r (now (head .exit)) (now («deadline» .exit)) ⌝ }
 {
     timeout::add(head, duration, deadline)
 }
 
 #[no_mangle]
 pub extern "C" fn wq_timeout_add_absolute(head: &mut [u64; 3], deadline: u64) -> i32
-    ensures { λ r. ⌜ Did place (addAbsolute «deadline») (now (head .entry)) [] r (now (head .exit)) [] ⌝ }
+    ensures { λ r. ⌜ AddsAbsolute «deadline» (now (head .entry)) r (now (head .exit)) ⌝ }
 {
     timeout::add_absolute(head, deadline)
 }
 
 #[no_mangle]
 pub extern "C" fn wq_timeout_add_forever(head: &mut [u64; 3]) -> i32
-    ensures { λ r. ⌜ Did place addForever (now (head .entry)) [] r (now (head .exit)) [] ⌝ }
+    ensures { λ r. ⌜ AddsForever (now (head .entry)) r (now (head .exit)) ⌝ }
 {
     timeout::add_forever(head)
 }
 
 #[no_mangle]
 pub extern "C" fn wq_timeout_add_no_wait(head: &mut [u64; 3]) -> i32
-    ensures { λ r. ⌜ Did place addNoWait (now (head .entry)) [] r (now (head .exit)) [] ⌝ }
+    ensures { λ r. ⌜ AddsNoWait (now (head .entry)) r (now (head .exit)) ⌝ }
 {
     timeout::add_no_wait(head)
 }
 
 #[no_mangle]
 pub extern "C" fn wq_timeout_abort(head: &mut [u64; 3]) -> i32
-    ensures { λ r. ⌜ Did place abort (now (head .entry)) [] r (now (head .exit)) [] ⌝ }
+    ensures { λ r. ⌜ Aborts (now (head .entry)) r (now (head .exit)) ⌝ }
 {
     timeout::abort(head)
 }
 
 #[no_mangle]
 pub extern "C" fn wq_timeout_announce(head: &mut [u64; 3], ticks: u64) -> i32
-    ensures { λ r. ⌜ Did place (announce «ticks») (now (head .entry)) [] r (now (head .exit)) [] ⌝ }
+    ensures { λ r. ⌜ Announces «ticks» (now (head .entry)) r (now (head .exit)) ⌝ }
 {
     timeout::announce(head, ticks)
 }
 
 #[no_mangle]
 pub extern "C" fn wq_timeout_remaining(head: &[u64; 3], ticks: &mut u64) -> i32
-    ensures { λ r. ⌜ Decided (asked remaining (now (head .entry))) (now («ticks» .entry)) r (now («ticks» .exit)) ⌝ }
+    ensures { λ r. ⌜ GetsRemaining (now (head .entry)) (now («ticks» .entry)) r (now («ticks» .exit)) ⌝ }
 {
     timeout::remaining(head, ticks)
 }
 
 #[no_mangle]
 pub extern "C" fn wq_timeout_expires(head: &[u64; 3], tick: &mut u64) -> i32
-    ensures { λ r. ⌜ Decided (asked expires (now (head .entry))) (now («tick» .entry)) r (now («tick» .exit)) ⌝ }
+    ensures { λ r. ⌜ GetsExpiry (now (head .entry)) (now («tick» .entry)) r (now («tick» .exit)) ⌝ }
 {
     timeout::expires(head, tick)
 }
 
 #[no_mangle]
 pub extern "C" fn wq_timeout_is_active(head: &[u64; 3]) -> i32
-    ensures { λ r. ⌜ r ≡ looks place whetherActive (now (head .entry)) [] ⌝ }
+    ensures { λ r. ⌜ SaysActive (now (head .entry)) r ⌝ }
 {
     timeout::is_active(head)
 }
 
 #[no_mangle]
 pub extern "C" fn wq_timeout_is_forever(head: &[u64; 3]) -> i32
-    ensures { λ r. ⌜ r ≡ looks place whetherForever (now (head .entry)) [] ⌝ }
+    ensures { λ r. ⌜ SaysForever (now (head .entry)) r ⌝ }
 {
     timeout::is_forever(head)
 }
 
 #[no_mangle]
 pub extern "C" fn wq_timeout_is_no_wait(head: &[u64; 3]) -> i32
-    ensures { λ r. ⌜ r ≡ looks place whetherNoWait (now (head .entry)) [] ⌝ }
+    ensures { λ r. ⌜ SaysNoWait (now (head .entry)) r ⌝ }
 {
     timeout::is_no_wait(head)
 }
 
 #[no_mangle]
 pub extern "C" fn wq_timeout_now(head: &[u64; 3], tick: &mut u64) -> i32
-    ensures { λ r. ⌜ Decided (asked clockNow (now (head .entry))) (now («tick» .entry)) r (now («tick» .exit)) ⌝ }
+    ensures { λ r. ⌜ GetsNow (now (head .entry)) (now («tick» .entry)) r (now («tick» .exit)) ⌝ }
 {
     timeout::now(head, tick)
 }
@@ -130,7 +125,7 @@ pub extern "C" fn wq_timeout_timepoint_calc(
     duration: u64,
     timepoint: &mut u64,
 ) -> i32
-    ensures { λ r. ⌜ Decided (asked (timepointCalc «duration») (now (head .entry))) (now («timepoint» .entry)) r (now («timepoint» .exit)) ⌝ }
+    ensures { λ r. ⌜ CalcsTimepoint «duration» (now (head .entry)) (now («timepoint» .entry)) r (now («timepoint» .exit)) ⌝ }
 {
     timeout::timepoint_calc(head, duration, timepoint)
 }
@@ -141,7 +136,7 @@ pub extern "C" fn wq_timeout_timepoint_timeout(
     timepoint: u64,
     ticks: &mut u64,
 ) -> i32
-    ensures { λ r. ⌜ Decided (asked (timepointTimeout «timepoint») (now (head .entry))) (now («ticks» .entry)) r (now («ticks» .exit)) ⌝ }
+    ensures { λ r. ⌜ GetsTimepointTimeout «timepoint» (now (head .entry)) (now («ticks» .entry)) r (now («ticks» .exit)) ⌝ }
 {
     timeout::timepoint_timeout(head, timepoint, ticks)
 }

@@ -36,11 +36,11 @@ wide-requires c κs = search needs
 load-requires : tie.Need-load-requires
 load-requires c κs = let a = c .before .before .before .before .before .before .before .before .before .before .before .args in let s = taken (a .h .now) (a .b .now) (length (a .out .now)) (c .before .before .before .before .before .before .sized .ensures) (c .before .before .before .before .before .if1 .left) in slot-fits (a .h .now) (a .b .now) (s .0) (length (a .out .now)) (c .before .wide .result) (s .1) (omega arith)
 
-slice-read-around : tie.Need-slice-read-around
-slice-read-around c = let a = c .before .before .before .before .before .before .before .before .before .before .before .before .before .before .before .args in let s = taken (a .h .now) (a .b .now) (length (a .out .now)) (c .before .before .before .before .before .before .before .before .before .before .sized .ensures) (c .before .before .before .before .before .before .before .before .before .if1 .left) in omega arith
+slice-read-next : tie.Need-slice-read-next
+slice-read-next c = let a = c .before .before .before .before .before .before .before .before .before .before .before .before .before .before .before .args in let s = taken (a .h .now) (a .b .now) (length (a .out .now)) (c .before .before .before .before .before .before .before .before .before .before .sized .ensures) (c .before .before .before .before .before .before .before .before .before .if1 .left) in omega arith
 
-around-requires : tie.Need-around-requires
-around-requires c κs = let a = c .before .before .before .before .before .before .before .before .before .before .before .before .before .before .before .args in let s = taken (a .h .now) (a .b .now) (length (a .out .now)) (c .before .before .before .before .before .before .before .before .before .before .sized .ensures) (c .before .before .before .before .before .before .before .before .before .if1 .left) in (omega arith, omega arith)
+next-requires : tie.Need-next-requires
+next-requires c κs = let a = c .before .before .before .before .before .before .before .before .before .before .before .before .before .before .before .args in let s = taken (a .h .now) (a .b .now) (length (a .out .now)) (c .before .before .before .before .before .before .before .before .before .before .sized .ensures) (c .before .before .before .before .before .before .before .before .before .if1 .left) in omega arith
 
 slice-write-h : tie.Need-slice-write-h
 slice-write-h c = let a = c .before .before .before .before .before .before .before .before .before .before .before .before .before .before .before .before .args in let s = taken (a .h .now) (a .b .now) (length (a .out .now)) (c .before .before .before .before .before .before .before .before .before .before .before .sized .ensures) (c .before .before .before .before .before .before .before .before .before .before .if1 .left) in omega arith
@@ -58,7 +58,7 @@ same-length-4 : tie.Need-same-length-4
 same-length-4 c = search needs
 
 returns-3 : tie.Need-returns-3
-returns-3 c = let a = c .before .before .before .before .before .before .before .before .before .before .before .before .before .before .before .before .args in let s = taken (a .h .now) (a .b .now) (length (a .out .now)) (c .before .before .before .before .before .before .before .before .before .before .before .sized .ensures) (c .before .before .before .before .before .before .before .before .before .before .if1 .left) in (get-done (a .h .now) (a .b .now) (s .0) (a .out .now) (c .around .result) (s .1) (omega arith) (c .around .ensures), shown (a .h .now) (a .b .now) (s .0) (a .out .now) 0 (c .before .before .before .before .before .before .wide .result) (c .before .before .before .before .load .last .1 .1 .0) (s .1) (omega arith) (c .before .before .before .before .before .before .wide .ensures ∙ zero-behind (a .h .now) (a .b .now) (s .0)) (c .before .before .before .before .load .ensures))
+returns-3 c = let a = c .before .before .before .before .before .before .before .before .before .before .before .before .before .before .before .before .args in let s = taken (a .h .now) (a .b .now) (length (a .out .now)) (c .before .before .before .before .before .before .before .before .before .before .before .sized .ensures) (c .before .before .before .before .before .before .before .before .before .before .if1 .left) in (get-done (a .h .now) (a .b .now) (s .0) (a .out .now) (c .next .result) (s .1) (omega arith) (c .next .ensures), shown (a .h .now) (a .b .now) (s .0) (a .out .now) 0 (c .before .before .before .before .before .before .wide .result) (c .before .before .before .before .load .last .1 .1 .0) (s .1) (omega arith) (c .before .before .before .before .before .before .wide .ensures ∙ zero-behind (a .h .now) (a .b .now) (s .0)) (c .before .before .before .before .load .ensures))
 
 pub get-spec : {M : Type 1} → statement M
 get-spec =
@@ -73,8 +73,8 @@ get-spec =
     slice-read-t
     wide-requires
     load-requires
-    slice-read-around
-    around-requires
+    slice-read-next
+    next-requires
     slice-write-h
     sub-h
     slice-write-h-2

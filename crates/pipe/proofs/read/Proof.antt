@@ -3,7 +3,7 @@ use mathlib.Core.Logic.{⊎-elim}
 use mathlib.Core.Path.{refl}
 use native.Mathlib.Omega.{arith}
 use lib.ListN.{length}
-use Rattle.seq.proofs.Integers.{answered64}
+use Rattle.seq.proofs.Integers.{answered, answered64, plain64}
 use Rattle.store.proofs.Laws.{did-bad, handed-bad}
 use Rattle.pipe.specs.Pipe.{read, taken}
 use Rattle.pipe.specs.Post.{layout}
@@ -40,11 +40,16 @@ returns-2 c = let n = length (c .before .before .before .before .before .before 
 read-refusal-requires : tie.Need-read-refusal-requires
 read-refusal-requires c κs = λ e f. ⊎-elim (λ x. omega arith) (⊎-elim (λ x. omega arith) (λ x. omega arith)) (c .before .if2 .came)
 
+cast-result-2 : tie.Need-cast-result-2
+cast-result-2 c = let u = c .read-refusal in rw (answered {z = u .result} (u .ok)) (record { sfits = omega (arith, u .ok) })
+
 same-length-3 : tie.Need-same-length-3
 same-length-3 c = search needs
 
 returns-3 : tie.Need-returns-3
-returns-3 c = (rw (answered64 {z = c .read-refusal .result} (c .read-refusal .ok)) (c .read-refusal .ensures .0), rw (c .read-refusal .ensures .1) refl)
+returns-3 c =
+    let u = c .read-refusal in
+    (rw (answered {z = u .result} (u .ok), plain64 {z = u .result} (record { sfits = u .ok })) (u .ensures .0), rw (u .ensures .1) refl)
 
 pub read-spec : {M : Type 1} → statement M
 read-spec =
@@ -59,5 +64,6 @@ read-spec =
     same-length-2
     returns-2
     read-refusal-requires
+    cast-result-2
     same-length-3
     returns-3)

@@ -1,7 +1,7 @@
 -- One law for each answer. Assumes nothing.
 use mathlib.Core.Logic.{⊎-elim}
 use native.Mathlib.Omega.{arith}
-use Rattle.seq.proofs.Integers.{answered64}
+use Rattle.seq.proofs.Integers.{answered, answered64, plain64}
 use Rattle.store.proofs.Laws.{did-bad}
 use Rattle.pipe.specs.Pipe.{write}
 use Rattle.pipe.specs.Post.{layout}
@@ -41,6 +41,9 @@ returns-2 c = rw (answered64 {z = c .before .before .before .before .put-n .resu
 write-refusal-requires : tie.Need-write-refusal-requires
 write-refusal-requires c κs = λ e f. ⊎-elim (λ x. omega arith) (⊎-elim (λ x. omega arith) (λ x. omega arith)) (c .before .before .if2 .came)
 
+cast-result-2 : tie.Need-cast-result-2
+cast-result-2 c = let u = c .write-refusal in rw (answered {z = u .result} (u .ok)) (record { sfits = omega (arith, u .ok) })
+
 same-length-3 : tie.Need-same-length-3
 same-length-3 c = search needs
 
@@ -48,7 +51,7 @@ same-length-4 : tie.Need-same-length-4
 same-length-4 c = search needs
 
 returns-3 : tie.Need-returns-3
-returns-3 c = search needs
+returns-3 c = let u = c .write-refusal in rw (answered {z = u .result} (u .ok), plain64 {z = u .result} (record { sfits = u .ok })) (u .ensures)
 
 pub write-spec : {M : Type 1} → statement M
 write-spec =
@@ -64,6 +67,7 @@ write-spec =
     same-length-2
     returns-2
     write-refusal-requires
+    cast-result-2
     same-length-3
     same-length-4
     returns-3)

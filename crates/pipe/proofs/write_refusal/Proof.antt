@@ -14,35 +14,20 @@ use Rattle.pipe.proofs.write_refusal.Tie as tie
 formed-requires : tie.Need-formed-requires
 formed-requires c κs = search needs
 
-cast-result : tie.Need-cast-result
-cast-result c = search needs
-
 returns : tie.Need-returns
 returns c = did-bad layout (write (c .before .before .before .before .before .args .src .now)) (c .before .before .before .before .before .args .h .now) (c .before .before .before .before .before .args .b .now) (sym (c .before .formed .ensures) ∙ not-true _ (c .if1 .taken))
 
 shared-slice-read-flags : tie.Need-shared-slice-read-flags
 shared-slice-read-flags c = omega (arith, (from-formed (c .before .before .before .before .before .before .args .h .now) (c .before .before .before .before .before .before .args .b .now) (sym (c .before .before .formed .ensures) ∙ not-false _ (c .before .if1 .left))))
 
-cast-result-2 : tie.Need-cast-result-2
-cast-result-2 c = search needs
-
 returns-2 : tie.Need-returns-2
 returns-2 c = write-cancelled (c .before .before .before .before .before .before .before .args .h .now) (c .before .before .before .before .before .before .before .args .b .now) (from-formed (c .before .before .before .before .before .before .before .args .h .now) (c .before .before .before .before .before .before .before .args .b .now) (sym (c .before .before .before .formed .ensures) ∙ not-false _ (c .before .before .if1 .left))) (c .before .before .before .before .before .before .before .args .src .now) (omega arith)
-
-cast-result-3 : tie.Need-cast-result-3
-cast-result-3 c = search needs
 
 returns-3 : tie.Need-returns-3
 returns-3 c = write-broken (c .before .before .before .before .before .before .before .before .args .h .now) (c .before .before .before .before .before .before .before .before .args .b .now) (from-formed (c .before .before .before .before .before .before .before .before .args .h .now) (c .before .before .before .before .before .before .before .before .args .b .now) (sym (c .before .before .before .before .formed .ensures) ∙ not-false _ (c .before .before .before .if1 .left))) (c .before .before .before .before .before .before .before .before .args .src .now) (omega arith)
 
-cast-result-4 : tie.Need-cast-result-4
-cast-result-4 c = search needs
-
 returns-4 : tie.Need-returns-4
 returns-4 c = write-nothing (c .before .before .before .before .before .before .before .before .before .args .h .now) (c .before .before .before .before .before .before .before .before .before .args .b .now) (from-formed (c .before .before .before .before .before .before .before .before .before .args .h .now) (c .before .before .before .before .before .before .before .before .before .args .b .now) (sym (c .before .before .before .before .before .formed .ensures) ∙ not-false _ (c .before .before .before .before .if1 .left))) (c .before .before .before .before .before .before .before .before .before .args .src .now) (omega arith) (omega arith)
-
-cast-result-5 : tie.Need-cast-result-5
-cast-result-5 c = search needs
 
 returns-5 : tie.Need-returns-5
 returns-5 c = write-again (c .before .before .before .before .before .before .before .before .before .args .h .now) (c .before .before .before .before .before .before .before .before .before .args .b .now) (from-formed (c .before .before .before .before .before .before .before .before .before .args .h .now) (c .before .before .before .before .before .before .before .before .before .args .b .now) (sym (c .before .before .before .before .before .formed .ensures) ∙ not-false _ (c .before .before .before .before .if1 .left))) (c .before .before .before .before .before .before .before .before .before .args .src .now) (omega arith) (omega arith) (c .before .before .before .before .before .before .before .before .before .pre (omega arith) (omega arith))
@@ -52,14 +37,9 @@ write-refusal-spec =
     tie.close
     (tie.spec
     formed-requires
-    cast-result
     returns
     shared-slice-read-flags
-    cast-result-2
     returns-2
-    cast-result-3
     returns-3
-    cast-result-4
     returns-4
-    cast-result-5
     returns-5)
