@@ -1,6 +1,6 @@
 -- What each function's answer means for the pipe. Assumes nothing.
 use mathlib.Core.Path.{_≡_, refl, sym, ap, subst, _∙_}
-use mathlib.Core.Bool.{Bool, true, false}
+use mathlib.Core.Bool.{Bool, true, false, cond}
 use mathlib.Core.List.{List, []}
 use Prim.Native.Nat.{ℕ, _+_, _-_, _≤_, _<_, min}
 use native.Mathlib.Omega.{arith}
@@ -17,9 +17,9 @@ use Rattle.ring_buf.proofs.Rings.{by-lt}
 use Rattle.ring_buf.proofs.Headers.{Sound, is-sound, from-sound}
 use Rattle.ring_buf.proofs.Answers.{held-is, spare-is, reset-done, made as made-ring}
 use Rattle.ring_buf.specs.Post.{PutsN}
-use Rattle.pipe.specs.Pipe.{Pipe, Verdict, move, writes, reads, moved, done, holding, toWrite, toRead, write, read, taken, reset, close, clearReset}
-use Rattle.pipe.specs.Post.{Starts, Writes, Resets, Closes, ClearsReset, isOpen, isResetting, formed, object, layout, flag}
-use Rattle.pipe.proofs.Verdicts.{write-resetting, write-closed, write-none, write-full, write-moves, read-resetting, read-none, read-closed, read-empty, read-moves, resetting-on, resetting-off, open-on, open-off}
+use Rattle.pipe.specs.Pipe.{Pipe, Verdict, never, later, move, wholly, once, writes, writesAll, reads, readsAll, moved, done, holding, toWrite, toWriteAll, toRead, toReadAll, write, writeAll, read, readAll, taken, takenAll, reset, close, clearReset}
+use Rattle.pipe.specs.Post.{Starts, Writes, WritesAll, Resets, Closes, ClearsReset, isOpen, isResetting, formed, object, layout, flag}
+use Rattle.pipe.proofs.Verdicts.{write-resetting, write-closed, write-none, write-full, write-moves, write-all-fits, write-all-not, read-resetting, read-none, read-closed, read-empty, read-moves, read-all-fits, read-all-not, resetting-on, resetting-off, open-on, open-off}
 use Rattle.pipe.proofs.Headers.{Formed, is-formed, is-ring, kept-flags, new-flags, on-ring}
 
 pub take-least : (n : ℕ) (l : List ℕ) → take n l ≡ take (min n (length l)) l
@@ -51,6 +51,19 @@ module _ (h b : List ℕ) (s : Sound h b) where
       ap (done (λ k. holding (append (take k l) (held h b)) p)) (to-write (length l) (write-moves (getD h 2 0) (getD h 0 0) (getD h 3 0) (length l) e g f))
       ∙ ap (λ (k : ℕ). accept (holding (append (take (min (length l) k) l) (held h b)) p) (pos (min (length l) k))) (sym (spare-is h b s))
 
+  abbrev writing-all : ℕ → Verdict
+  writing-all n = writesAll (getD h 2 0) (getD h 0 0) (isOpen (getD h 3 0)) (isResetting (getD h 3 0)) n
+
+  pub to-write-all : {v : Verdict} (n : ℕ) → writing-all n ≡ v → toWriteAll n p ≡ v
+  to-write-all n e = ap (λ (u : ℕ). writesAll u (getD h 0 0) (isOpen (getD h 3 0)) (isResetting (getD h 3 0)) n) (held-is h b s) ∙ e
+
+  writes-all-ring : (l : List ℕ) → getD h 3 0 ≡ 1 → getD h 2 0 < getD h 0 0 → 0 < length l → length l ≤ getD h 0 0 - getD h 2 0
+      → writeAll l p ≡ carry (λ q. holding q p) (putMany l (held h b))
+  writes-all-ring l e f g k =
+      ap (done (λ k. holding (append (take k l) (held h b)) p))
+      (to-write-all (length l) (write-all-fits (getD h 2 0) (getD h 0 0) (getD h 3 0) (length l) e g f k) ∙ sym (to-write (length l) refl))
+      ∙ writes-ring l e f g
+
   read-count : (n : ℕ) → getD h 3 0 < 2 → 0 < getD h 2 0 → 0 < n → toRead n p ≡ move (min n (length (held h b .held)))
   read-count n e f g =
       to-read n (read-moves (getD h 2 0) (getD h 0 0) (getD h 3 0) n e g f) ∙ ap (λ (k : ℕ). move (min n k)) (sym (held-is h b s))
@@ -61,11 +74,25 @@ module _ (h b : List ℕ) (s : Sound h b) where
   taken-ring : (n : ℕ) → getD h 3 0 < 2 → 0 < getD h 2 0 → 0 < n → taken n p ≡ gotten n (held h b)
   taken-ring n e f g = ap (λ (v : Verdict). take (moved v) (held h b .held)) (read-count n e f g) ∙ sym (take-least n (held h b .held))
 
+  abbrev reading-all : ℕ → Verdict
+  reading-all n = readsAll (getD h 2 0) (getD h 0 0) (isOpen (getD h 3 0)) (isResetting (getD h 3 0)) n
+
+  pub to-read-all : {v : Verdict} (n : ℕ) → reading-all n ≡ v → toReadAll n p ≡ v
+  to-read-all n e = ap (λ (u : ℕ). readsAll u (getD h 0 0) (isOpen (getD h 3 0)) (isResetting (getD h 3 0)) n) (held-is h b s) ∙ e
+
+  -- all are there: it is the ordinary read
+  all-there : (n : ℕ) → getD h 3 0 < 2 → 0 < n → n ≤ getD h 2 0 → toReadAll n p ≡ toRead n p
+  all-there n e f g = to-read-all n (read-all-fits (getD h 2 0) (getD h 0 0) (getD h 3 0) n e f g) ∙ sym (to-read n refl)
+
 -- ---- what the ring did
 
 module _ (h b : List ℕ) (w : 4 ≤ length h) where
   pub wrote : {r : ℤ} {h' b' : List ℕ} (l : List ℕ) → getD h 3 0 ≡ 1 → getD h 2 0 < getD h 0 0 → 0 < length l → PutsN l h b r h' b' → Writes l h b r h' b'
   wrote l e f g d = on-ring h b w (omega arith) (write l) (putMany l) (λ s. writes-ring h b s l e f g) d
+
+  pub wrote-all : {r : ℤ} {h' b' : List ℕ} (l : List ℕ) → getD h 3 0 ≡ 1 → getD h 2 0 < getD h 0 0 → 0 < length l → length l ≤ getD h 0 0 - getD h 2 0
+      → PutsN l h b r h' b' → WritesAll l h b r h' b'
+  wrote-all l e f g k d = on-ring h b w (omega arith) (writeAll l) (putMany l) (λ s. writes-all-ring h b s l e f g k) d
 
   module _ (n : ℕ) (e : getD h 3 0 < 2) (f : 0 < getD h 2 0) (g : 0 < n) where
     pub took : {r : ℤ} {h' b' : List ℕ} → Did bytes (getMany n) h b r h' b' → Did layout (read n) h b r h' b'
@@ -76,6 +103,22 @@ module _ (h b : List ℕ) (w : 4 ≤ length h) where
       where
         go : (t : Bool) → sound h b ≡ t → handed bytes (gotten n) h b ≡ handed layout (taken n) h b
         go true x = rw (is-ring h b w (omega arith), x) (sym (taken-ring h b (from-sound h b x) n e f g))
+        go false x = rw (is-ring h b w (omega arith), x)
+
+  module _ (n : ℕ) (e : getD h 3 0 < 2) (f : 0 < n) (g : n ≤ getD h 2 0) where
+    pub took-all : {r : ℤ} {h' b' : List ℕ} → Did bytes (getMany n) h b r h' b' → Did layout (readAll n) h b r h' b'
+    took-all d =
+        on-ring h b w (omega arith) (readAll n) (getMany n)
+        (λ s. ap (done (λ k. holding (leave k (held h b)) (object h b))) (all-there h b s n e f g) ∙ reads-ring h b s n e (omega arith) f) d
+
+    pub took-all-out : handed bytes (gotten n) h b ≡ handed layout (takenAll n) h b
+    took-all-out = go (sound h b) refl
+      where
+        go : (t : Bool) → sound h b ≡ t → handed bytes (gotten n) h b ≡ handed layout (takenAll n) h b
+        go true x =
+            let s = from-sound h b x in
+            rw (is-ring h b w (omega arith), x)
+            (sym (ap (λ (v : Verdict). take (moved v) (held h b .held)) (all-there h b s n e f g) ∙ taken-ring h b s n e (omega arith) f))
         go false x = rw (is-ring h b w (omega arith), x)
 
 -- ---- refusals
@@ -100,6 +143,35 @@ module _ (h b : List ℕ) (s : Formed h b) where
     pub write-again : getD h 3 0 ≡ 1 → 0 < length l → getD h 0 0 ≤ getD h 2 0 → Writes l h b eagain h b
     write-again e f g = did-no layout (write l) h b fine (written (write-full (getD h 2 0) (getD h 0 0) (getD h 3 0) (length l) e f g))
 
+    -- all or nothing
+    written-all : {v : Verdict} → writing-all h b (s .ring) (length l) ≡ v → writeAll l (object h b) ≡ done (λ k. holding (append (take k l) (held h b)) (object h b)) v
+    written-all e = ap (done (λ k. holding (append (take k l) (held h b)) (object h b))) (to-write-all h b (s .ring) (length l) e)
+
+    pub write-all-cancelled : 2 ≤ getD h 3 0 → WritesAll l h b ecanceled h b
+    write-all-cancelled f =
+        did-no layout (writeAll l) h b fine
+        (written-all (ap (wholly (length l) (once (getD h 0 0) (length l))) (write-resetting (getD h 2 0) (getD h 0 0) (getD h 3 0) (length l) f (s .flags))))
+
+    pub write-all-broken : getD h 3 0 ≡ 0 → WritesAll l h b epipe h b
+    write-all-broken e =
+        did-no layout (writeAll l) h b fine
+        (written-all (ap (wholly (length l) (once (getD h 0 0) (length l))) (write-closed (getD h 2 0) (getD h 0 0) (getD h 3 0) (length l) e)))
+
+    pub write-all-nothing : getD h 3 0 ≡ 1 → length l ≡ 0 → WritesAll l h b enomsg h b
+    write-all-nothing e z =
+        did-no layout (writeAll l) h b fine
+        (written-all (ap (wholly (length l) (once (getD h 0 0) (length l))) (write-none (getD h 2 0) (getD h 0 0) (getD h 3 0) (length l) e z)))
+
+    pub write-all-too-long : getD h 3 0 ≡ 1 → 0 < length l → getD h 0 0 < length l → WritesAll l h b einval h b
+    write-all-too-long e f g =
+        did-no layout (writeAll l) h b fine
+        (written-all {v = never einval} (write-all-not (getD h 2 0) (getD h 0 0) (getD h 3 0) (length l) e f (omega arith) ∙ rw (lt-ltb (getD h 0 0) (length l) g)))
+
+    pub write-all-again : getD h 3 0 ≡ 1 → 0 < length l → length l ≤ getD h 0 0 → getD h 0 0 - getD h 2 0 < length l → WritesAll l h b eagain h b
+    write-all-again e f g k =
+        did-no layout (writeAll l) h b fine
+        (written-all {v = later} (write-all-not (getD h 2 0) (getD h 0 0) (getD h 3 0) (length l) e f k ∙ rw (le-ltb (getD h 0 0) (length l) g)))
+
   module _ (n : ℕ) where
     -- nothing happens, and nothing is handed out
     abbrev Refused : ℤ → Type 0
@@ -123,6 +195,40 @@ module _ (h b : List ℕ) (s : Formed h b) where
 
     pub read-again : getD h 3 0 ≡ 1 → 0 < n → getD h 2 0 ≡ 0 → Refused eagain
     read-again e f z = gone refl refl (read-empty (getD h 2 0) (getD h 0 0) (getD h 3 0) n e f z)
+
+    -- all or nothing
+    abbrev Refused-all : ℤ → Type 0
+    Refused-all c = Did layout (readAll n) h b c h b × (handed layout (takenAll n) h b ≡ [])
+
+    gone-all : {c : ℤ} (v : Verdict) → done (λ k. holding (leave k (held h b)) (object h b)) v ≡ refuse c → moved v ≡ 0 → reading-all h b (s .ring) n ≡ v → Refused-all c
+    gone-all v r z e =
+        let x = to-read-all h b (s .ring) n e in (
+          did-no layout (readAll n) h b fine (ap (done (λ k. holding (leave k (held h b)) (object h b))) x ∙ r),
+          handed-is layout h b (takenAll n) fine ∙ ap (λ (k : ℕ). take k (held h b .held)) (ap moved x ∙ z),
+        )
+
+    abbrev short : Verdict
+    short = cond (isOpen (getD h 3 0)) (once (getD h 0 0) n) (never epipe)
+
+    pub read-all-cancelled : 2 ≤ getD h 3 0 → Refused-all ecanceled
+    read-all-cancelled f =
+        gone-all (never ecanceled) refl refl (ap (wholly n short) (read-resetting (getD h 2 0) (getD h 0 0) (getD h 3 0) n f (s .flags)))
+
+    pub read-all-nothing : getD h 3 0 < 2 → n ≡ 0 → Refused-all enomsg
+    read-all-nothing f z = gone-all (never enomsg) refl refl (ap (wholly n short) (read-none (getD h 2 0) (getD h 0 0) (getD h 3 0) n f z))
+
+    module _ (f : 0 < n) (g : getD h 2 0 < n) where
+      few : getD h 3 0 < 2 → reading-all h b (s .ring) n ≡ short
+      few e = read-all-not (getD h 2 0) (getD h 0 0) (getD h 3 0) n e f g
+
+      pub read-all-broken : getD h 3 0 ≡ 0 → Refused-all epipe
+      read-all-broken e = gone-all (never epipe) refl refl (few (omega arith) ∙ rw e)
+
+      pub read-all-too-long : getD h 3 0 ≡ 1 → getD h 0 0 < n → Refused-all einval
+      read-all-too-long e k = gone-all (never einval) refl refl (few (omega arith) ∙ rw (e, lt-ltb (getD h 0 0) n k))
+
+      pub read-all-again : getD h 3 0 ≡ 1 → n ≤ getD h 0 0 → Refused-all eagain
+      read-all-again e k = gone-all later refl refl (few (omega arith) ∙ rw (e, le-ltb (getD h 0 0) n k))
 
 -- ---- other calls
 

@@ -10,8 +10,8 @@ use Rattle.thread.specs.Code.{einval, epipe, enomsg, ecanceled}
 use Rattle.store.specs.Store.{Reply, refuse, accept}
 use Rattle.store.proofs.Laws.{both-true}
 use Rattle.ring_buf.proofs.Rings.{by-lt}
-use Rattle.pipe.specs.Pipe.{Verdict, never, later, move, writes, reads}
-use Rattle.pipe.specs.Post.{WriteDecided, ReadDecided, isOpen, isResetting, Moves, goes, wakes, pends, decided, proper, behind, writeDecision, readDecision, Decided}
+use Rattle.pipe.specs.Pipe.{Verdict, never, later, move, wholly, once, writes, writesAll, reads, readsAll}
+use Rattle.pipe.specs.Post.{WriteDecided, WriteAllDecided, ReadDecided, ReadAllDecided, isOpen, isResetting, Moves, goes, wakes, pends, decided, proper, behind, writeDecision, writeAllDecision, readDecision, readAllDecision, Decided}
 
 pub resetting-on : (f : ℕ) → 2 ≤ f → f ≤ 3 → isResetting f ≡ true
 resetting-on f h k = by-lt f 3 (λ l. rw (eq-eqb f 2 (omega arith))) (λ l. rw (eq-eqb f 3 (omega arith), ne-eqb f 2 (λ e. omega arith)))
@@ -46,6 +46,32 @@ read-within u o false n = go (eqb n 0) (ltb 0 u) o refl refl
     go false false true e f = tt
     go false false false e f = tt
 
+all-within : (n m : ℕ) (v : Verdict) → Within n m v → (u : Verdict) → Within n m u → Within n m (wholly n v u)
+all-within n m v w (never c) x = x
+all-within n m v w later x = w
+all-within n m v w (move k) x = go (ltb k n)
+  where
+    go : (a : Bool) → Within n m (cond a v (move k))
+    go true = w
+    go false = x
+
+once-within : (s n m : ℕ) → Within n m (once s n)
+once-within s n m = go (ltb s n)
+  where
+    go : (b : Bool) → Within n m (cond b (never einval) later)
+    go true = tt
+    go false = tt
+
+pub write-all-within : (u s : ℕ) (o r : Bool) (n : ℕ) → Within n (s - u) (writesAll u s o r n)
+write-all-within u s o r n = all-within n (s - u) (once s n) (once-within s n (s - u)) (writes u s o r n) (write-within u s o r n)
+
+pub read-all-within : (u s : ℕ) (o r : Bool) (n : ℕ) → Within n u (readsAll u s o r n)
+read-all-within u s o r n = all-within n u (cond o (once s n) (never epipe)) (ends o) (reads u o r n) (read-within u o r n)
+  where
+    ends : (o : Bool) → Within n u (cond o (once s n) (never epipe))
+    ends true = once-within s n u
+    ends false = tt
+
 module _ (used size f n : ℕ) where
   pub write-resetting : 2 ≤ f → f ≤ 3 → writes used size (isOpen f) (isResetting f) n ≡ never ecanceled
   write-resetting h k = rw (resetting-on f h k)
@@ -62,6 +88,16 @@ module _ (used size f n : ℕ) where
   pub write-moves : f ≡ 1 → 0 < n → used < size → writes used size (isOpen f) (isResetting f) n ≡ move (min n (size - used))
   write-moves e h k = rw (e, ne-eqb n 0 (λ z. omega arith), lt-ltb used size k)
 
+  -- all or nothing
+  pub write-all-fits : f ≡ 1 → 0 < n → used < size → n ≤ size - used → writesAll used size (isOpen f) (isResetting f) n ≡ writes used size (isOpen f) (isResetting f) n
+  write-all-fits e h k l =
+      let m : min n (size - used) ≡ n = omega arith in
+      rw (write-moves e h k, m, le-ltb n n (omega arith))
+
+  pub write-all-not : f ≡ 1 → 0 < n → size - used < n → writesAll used size (isOpen f) (isResetting f) n ≡ once size n
+  write-all-not e h k =
+      by-lt used size (λ l. rw (write-moves e h l, lt-ltb (min n (size - used)) n (omega arith))) (λ l. ap (wholly n (once size n)) (write-full e h l))
+
   pub read-resetting : 2 ≤ f → f ≤ 3 → reads used (isOpen f) (isResetting f) n ≡ never ecanceled
   read-resetting h k = rw (resetting-on f h k)
 
@@ -76,6 +112,17 @@ module _ (used size f n : ℕ) where
 
   pub read-moves : f < 2 → 0 < n → 0 < used → reads used (isOpen f) (isResetting f) n ≡ move (min n used)
   read-moves g h k = rw (resetting-off f g, ne-eqb n 0 (λ z. omega arith), lt-ltb 0 used k)
+
+  pub read-all-fits : f < 2 → 0 < n → n ≤ used → readsAll used size (isOpen f) (isResetting f) n ≡ reads used (isOpen f) (isResetting f) n
+  read-all-fits g h k = let m : min n used ≡ n = omega arith in rw (read-moves g h (omega arith), m, le-ltb n n (omega arith))
+
+  pub read-all-not : f < 2 → 0 < n → used < n → readsAll used size (isOpen f) (isResetting f) n ≡ cond (isOpen f) (once size n) (never epipe)
+  read-all-not g h k =
+      by-lt 0 used (λ l. rw (read-moves g h l, lt-ltb (min n used) n (omega arith))) (λ l. none (isOpen f) (omega arith))
+    where
+      none : (o : Bool) → used ≡ 0 → wholly n (cond o (once size n) (never epipe)) (reads used o (isResetting f) n) ≡ cond o (once size n) (never epipe)
+      none true z = rw (resetting-off f g, ne-eqb n 0 (λ y. omega arith), z)
+      none false z = rw (resetting-off f g, ne-eqb n 0 (λ y. omega arith), z)
 
 -- ---- on plain numbers
 

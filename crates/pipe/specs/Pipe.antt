@@ -5,7 +5,7 @@ use Prim.Native.Nat.{ℕ, _-_, min}
 use lib.Dec.{ltb, eqb}
 use lib.IntN.{ℤ, pos}
 use lib.ListN.{length, take}
-use Rattle.thread.specs.Code.{ok, eagain, epipe, enomsg, ecanceled}
+use Rattle.thread.specs.Code.{ok, eagain, einval, epipe, enomsg, ecanceled}
 use Rattle.store.specs.Store.{Reply, refuse, accept}
 use Rattle.ring_buf.specs.Ring.{Ring, append, leave, clear}
 
@@ -34,6 +34,24 @@ reads used opened resetting n =
     (never ecanceled)
     (cond (eqb n 0) (never enomsg) (cond (ltb 0 used) (move (min n used)) (cond opened later (never epipe))))
 
+-- all n bytes or none: if only a part of them moves now, or none, it is v
+abbrev pub wholly : ℕ → Verdict → Verdict → Verdict
+wholly n v (never c) = never c
+wholly n v later = v
+wholly n v (move k) = cond (ltb k n) v (move k)
+
+-- later, unless a pipe of this size never holds n bytes
+abbrev pub once : ℕ → ℕ → Verdict
+once size n = cond (ltb size n) (never einval) later
+
+-- n bytes into it, all or none
+abbrev pub writesAll : ℕ → ℕ → Bool → Bool → ℕ → Verdict
+writesAll used size opened resetting n = wholly n (once size n) (writes used size opened resetting n)
+
+-- n bytes out of it, all or none. A closed one never has more
+abbrev pub readsAll : ℕ → ℕ → Bool → Bool → ℕ → Verdict
+readsAll used size opened resetting n = wholly n (cond opened (once size n) (never epipe)) (reads used opened resetting n)
+
 -- how many bytes move
 abbrev pub moved : Verdict → ℕ
 moved (never c) = 0
@@ -56,17 +74,34 @@ toWrite n p = writes (length (p .ring .held)) (p .ring .capacity) (p .opened) (p
 abbrev pub toRead : ℕ → Pipe → Verdict
 toRead n p = reads (length (p .ring .held)) (p .opened) (p .resetting) n
 
+abbrev pub toWriteAll : ℕ → Pipe → Verdict
+toWriteAll n p = writesAll (length (p .ring .held)) (p .ring .capacity) (p .opened) (p .resetting) n
+
+abbrev pub toReadAll : ℕ → Pipe → Verdict
+toReadAll n p = readsAll (length (p .ring .held)) (p .ring .capacity) (p .opened) (p .resetting) n
+
 -- the first of l go behind what is held
 abbrev pub write : List ℕ → Pipe → Reply Pipe
 write l p = done (λ k. holding (append (take k l) (p .ring)) p) (toWrite (length l) p)
+
+-- all of l, or none
+abbrev pub writeAll : List ℕ → Pipe → Reply Pipe
+writeAll l p = done (λ k. holding (append (take k l) (p .ring)) p) (toWriteAll (length l) p)
 
 -- the first that are held leave
 abbrev pub read : ℕ → Pipe → Reply Pipe
 read n p = done (λ k. holding (leave k (p .ring)) p) (toRead n p)
 
+-- n of them, or none
+abbrev pub readAll : ℕ → Pipe → Reply Pipe
+readAll n p = done (λ k. holding (leave k (p .ring)) p) (toReadAll n p)
+
 -- the bytes that a read hands out
 abbrev pub taken : ℕ → Pipe → List ℕ
 taken n p = take (moved (toRead n p)) (p .ring .held)
+
+abbrev pub takenAll : ℕ → Pipe → List ℕ
+takenAll n p = take (moved (toReadAll n p)) (p .ring .held)
 
 -- nothing is held; neither a write nor a read until the reset is over
 abbrev pub reset : Pipe → Reply Pipe

@@ -10,7 +10,7 @@ use lib.ListN.{length, getD}
 use Rattle.thread.specs.Code.{einval}
 use Rattle.store.specs.Store.{Reply, refuse, accept, answer, settled, Place, Did, looks, Fills, Started}
 use Rattle.ring_buf.specs.Bytes.{sound, held, new as newRing, may, sizeOf, spaceOf, capacityOf, empty, full}
-use Rattle.pipe.specs.Pipe.{Pipe, Verdict, never, later, move, writes, reads, write, read, taken, reset, close, clearReset}
+use Rattle.pipe.specs.Pipe.{Pipe, Verdict, never, later, move, writes, writesAll, reads, readsAll, write, writeAll, read, readAll, taken, takenAll, reset, close, clearReset}
 
 -- 0: closed; 1: open; 2: closed and resetting; 3: open and resetting
 abbrev pub isOpen : ℕ → Bool
@@ -98,6 +98,19 @@ readDecision used size flags n writer =
     (decided used (cond writer wakes goes) (λ k. used - k) (reads used (isOpen flags) (isResetting flags) n))
     (refuse einval)
 
+-- all bytes or none
+abbrev pub writeAllDecision : ℕ → ℕ → ℕ → ℕ → Bool → Reply Moves
+writeAllDecision used size flags n reader =
+    cond (proper used size flags)
+    (decided used (cond reader wakes goes) (behind reader used) (writesAll used size (isOpen flags) (isResetting flags) n))
+    (refuse einval)
+
+abbrev pub readAllDecision : ℕ → ℕ → ℕ → ℕ → Bool → Reply Moves
+readAllDecision used size flags n writer =
+    cond (proper used size flags)
+    (decided used (cond writer wakes goes) (λ k. used - k) (readsAll used size (isOpen flags) (isResetting flags) n))
+    (refuse einval)
+
 -- a decision was made, in the words that were a and u: a refusal leaves them
 pub record Decided (d : Reply Moves) (a u : ℕ) (r : ℤ) (a' u' : ℕ) : Type 0 where
   pub code : r ≡ answer d
@@ -114,9 +127,17 @@ Starts n h b r h' = Started layout (may n b) (new n b) h b r h' b
 abbrev pub Writes : List ℕ → List ℕ → List ℕ → ℤ → List ℕ → List ℕ → Type 0
 Writes src h b r h' b' = Did layout (write src) h b r h' b'
 
+-- all of src go behind what is held, or none
+abbrev pub WritesAll : List ℕ → List ℕ → List ℕ → ℤ → List ℕ → List ℕ → Type 0
+WritesAll src h b r h' b' = Did layout (writeAll src) h b r h' b'
+
 -- the first bytes that are held come out, as many as out has room for
 abbrev pub Reads : List ℕ → List ℕ → List ℕ → ℤ → List ℕ → List ℕ → Type 0
 Reads h b out r h' out' = Fills layout (read (length out)) (taken (length out)) h b out r h' out'
+
+-- as many as out has room for, or none
+abbrev pub ReadsAll : List ℕ → List ℕ → List ℕ → ℤ → List ℕ → List ℕ → Type 0
+ReadsAll h b out r h' out' = Fills layout (readAll (length out)) (takenAll (length out)) h b out r h' out'
 
 abbrev pub Resets : List ℕ → List ℕ → ℤ → List ℕ → Type 0
 Resets h b r h' = Did layout reset h b r h' b
@@ -153,5 +174,11 @@ SaysResetting h b r = r ≡ looks layout (λ (p : Pipe). flag (p .resetting)) h 
 abbrev pub WriteDecided : ℕ → ℕ → ℕ → ℕ → Bool → ℕ → ℕ → ℤ → ℕ → ℕ → Type 0
 WriteDecided used size flags n reader a u r a' u' = Decided (writeDecision used size flags n reader) a u r a' u'
 
+abbrev pub WriteAllDecided : ℕ → ℕ → ℕ → ℕ → Bool → ℕ → ℕ → ℤ → ℕ → ℕ → Type 0
+WriteAllDecided used size flags n reader a u r a' u' = Decided (writeAllDecision used size flags n reader) a u r a' u'
+
 abbrev pub ReadDecided : ℕ → ℕ → ℕ → ℕ → Bool → ℕ → ℕ → ℤ → ℕ → ℕ → Type 0
 ReadDecided used size flags n writer a u r a' u' = Decided (readDecision used size flags n writer) a u r a' u'
+
+abbrev pub ReadAllDecided : ℕ → ℕ → ℕ → ℕ → Bool → ℕ → ℕ → ℤ → ℕ → ℕ → Type 0
+ReadAllDecided used size flags n writer a u r a' u' = Decided (readAllDecision used size flags n writer) a u r a' u'

@@ -7,12 +7,12 @@ use thread::ENOMSG;
 use thread::EPIPE;
 use thread::OK;
 ghost use mathlib.Core.Path.{_≡_};
-ghost use Prim.Native.Nat.{_<_, _≤_, min};
+ghost use Prim.Native.Nat.{_-_, _<_, _≤_, min};
 ghost use mathlib.Core.List.{[]};
 ghost use lib.ListN.{length, getD};
 ghost use Rattle.store.specs.Store.{Did, handed};
-ghost use Rattle.pipe.specs.Pipe.{read as doRead, taken};
-ghost use Rattle.pipe.specs.Post.{Starts, Writes, Reads, Resets, Closes, ClearsReset, GetsSpace, GetsData, GetsSize, SaysEmpty, SaysFull, SaysOpen, SaysResetting, WriteDecided, ReadDecided, isOpen, formed as wellFormed, layout, proper as properNumbers};
+ghost use Rattle.pipe.specs.Pipe.{read as doRead, readAll as doReadAll, taken, takenAll};
+ghost use Rattle.pipe.specs.Post.{Starts, Writes, WritesAll, Reads, ReadsAll, Resets, Closes, ClearsReset, GetsSpace, GetsData, GetsSize, SaysEmpty, SaysFull, SaysOpen, SaysResetting, WriteDecided, WriteAllDecided, ReadDecided, ReadAllDecided, isOpen, formed as wellFormed, layout, proper as properNumbers};
 
 // Open, and resetting too: Gale's FLAG_OPEN and FLAG_RESET are bits.
 pub const FLAG_OPEN: u32 = 1;
@@ -115,6 +115,49 @@ pub fn write(h: &mut [u32], b: &mut [u8], src: &[u8]) -> i64
     write_refusal(h, b, src) as i64
 }
 
+// A write to a pipe that does not take all n bytes.
+fn write_all_refusal(h: &[u32], b: &[u8], src: &[u8]) -> i64
+    requires { ⌜ (getD (now h) 3 0 ≡ 1 → 0 < length (now src) → getD (now h) 0 0 - getD (now h) 2 0 < length (now src)) ⌝ }
+    ensures { λ r. ⌜ WritesAll (now (src .entry)) (now (h .entry)) (now (b .entry)) r (now (h .entry)) (now (b .entry)) ⌝ }
+{
+    if !formed(h, b) {
+        return EINVAL as i64;
+    }
+    let flags = h[3];
+    if FLAG_RESET <= flags {
+        return ECANCELED as i64;
+    }
+    if flags == 0 {
+        return EPIPE as i64;
+    }
+    if src.len() == 0 {
+        return ENOMSG as i64;
+    }
+    if seq::wide(h[0]) < src.len() {
+        return EINVAL as i64;
+    }
+    EAGAIN as i64
+}
+
+// All bytes of src went in: how many. Refusals as write; EAGAIN: there is no room for all now; EINVAL, too: they are more than the pipe can hold.
+pub fn write_all(h: &mut [u32], b: &mut [u8], src: &[u8]) -> i64
+    ensures { λ r. ⌜ WritesAll (now (src .entry)) (now (h .entry)) (now (b .entry)) r (now (h .exit)) (now (b .exit)) ⌝ }
+{
+    if h.len() < 4 {
+        return EINVAL as i64;
+    }
+    if h[3] == FLAG_OPEN {
+        if h[2] < h[0] {
+            if 0 < src.len() {
+                if src.len() <= seq::wide(h[0] - h[2]) {
+                    return ring_buf::put_n(h, b, src);
+                }
+            }
+        }
+    }
+    write_all_refusal(h, b, src)
+}
+
 // A read from a pipe that gives no byte.
 fn read_refusal(h: &[u32], b: &[u8], n: usize) -> i32
     requires { ⌜ (getD (now h) 3 0 < 2 → 0 < n → getD (now h) 2 0 ≡ 0) ⌝ }
@@ -152,6 +195,48 @@ pub fn read(h: &mut [u32], b: &[u8], out: &mut [u8]) -> i64
         }
     }
     read_refusal(h, b, out.len()) as i64
+}
+
+// A read from a pipe that does not give all n bytes.
+fn read_all_refusal(h: &[u32], b: &[u8], n: usize) -> i64
+    requires { ⌜ (getD (now h) 3 0 < 2 → 0 < n → getD (now h) 2 0 < n) ⌝ }
+    ensures { λ r. ⌜ Did layout (doReadAll n) (now (h .entry)) (now (b .entry)) r (now (h .entry)) (now (b .entry)) ⌝ }
+    ensures { λ r. ⌜ handed layout (takenAll n) (now (h .entry)) (now (b .entry)) ≡ [] ⌝ }
+{
+    if !formed(h, b) {
+        return EINVAL as i64;
+    }
+    let flags = h[3];
+    if FLAG_RESET <= flags {
+        return ECANCELED as i64;
+    }
+    if n == 0 {
+        return ENOMSG as i64;
+    }
+    if flags == 0 {
+        return EPIPE as i64;
+    }
+    if seq::wide(h[0]) < n {
+        return EINVAL as i64;
+    }
+    EAGAIN as i64
+}
+
+// The whole of out was filled: how many bytes. Refusals as read; if fewer are held EPIPE: closed, EINVAL: out is longer than the pipe, EAGAIN.
+pub fn read_all(h: &mut [u32], b: &[u8], out: &mut [u8]) -> i64
+    ensures { λ r. ⌜ ReadsAll (now (h .entry)) (now (b .entry)) (now (out .entry)) r (now (h .exit)) (now (out .exit)) ⌝ }
+{
+    if h.len() < 4 {
+        return EINVAL as i64;
+    }
+    if h[3] < FLAG_RESET {
+        if 0 < out.len() {
+            if out.len() <= seq::wide(h[2]) {
+                return ring_buf::get_n(h, b, out);
+            }
+        }
+    }
+    read_all_refusal(h, b, out.len())
 }
 
 // OK: nothing is held, and it is resetting.
@@ -318,6 +403,34 @@ pub fn write_decide(
     OK
 }
 
+// All bytes or none: as write_decide, but PEND also where only a part of them has room, and EINVAL where they are more than the pipe can hold.
+pub fn write_all_decide(
+    used: u32,
+    size: u32,
+    flags: u32,
+    request_len: u32,
+    has_reader: bool,
+    actual_bytes: &mut u32,
+    new_used: &mut u32,
+) -> i32
+    ensures { λ r. ⌜ WriteAllDecided used «size» flags «request_len» «has_reader» (now («actual_bytes» .entry)) (now («new_used» .entry)) r (now («actual_bytes» .exit)) (now («new_used» .exit)) ⌝ }
+{
+    if !proper(used, size, flags) {
+        return EINVAL;
+    }
+    if flags == FLAG_OPEN {
+        if size - used < request_len {
+            if size < request_len {
+                return EINVAL;
+            }
+            *actual_bytes = 0;
+            *new_used = used;
+            return PEND;
+        }
+    }
+    write_decide(used, size, flags, request_len, has_reader, actual_bytes, new_used)
+}
+
 // Refusals as read, whoever waits. OK; WAKE_WRITER: then those that wait are to write, the first first, as far as there is room; PEND: the caller is to wait.
 pub fn read_decide(
     used: u32,
@@ -354,4 +467,35 @@ pub fn read_decide(
         return WAKE_WRITER;
     }
     OK
+}
+
+// All bytes or none: as read_decide, but if fewer are held EPIPE: closed, EINVAL: they are more than the pipe can hold, PEND.
+pub fn read_all_decide(
+    used: u32,
+    size: u32,
+    flags: u32,
+    request_len: u32,
+    has_writer: bool,
+    actual_bytes: &mut u32,
+    new_used: &mut u32,
+) -> i32
+    ensures { λ r. ⌜ ReadAllDecided used «size» flags «request_len» «has_writer» (now («actual_bytes» .entry)) (now («new_used» .entry)) r (now («actual_bytes» .exit)) (now («new_used» .exit)) ⌝ }
+{
+    if !proper(used, size, flags) {
+        return EINVAL;
+    }
+    if flags < FLAG_RESET {
+        if used < request_len {
+            if flags == 0 {
+                return EPIPE;
+            }
+            if size < request_len {
+                return EINVAL;
+            }
+            *actual_bytes = 0;
+            *new_used = used;
+            return PEND;
+        }
+    }
+    read_decide(used, size, flags, request_len, has_writer, actual_bytes, new_used)
 }
