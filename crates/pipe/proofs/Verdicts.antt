@@ -1,5 +1,5 @@
 -- What becomes of a write and a read, by the flags and the numbers. Assumes nothing.
-use mathlib.Core.Path.{_≡_, refl, ap, _∙_}
+use mathlib.Core.Path.{_≡_, refl, sym, ap, subst, _∙_}
 use mathlib.Core.Bool.{Bool, true, false, cond}
 use Prim.Native.Nat.{ℕ, _+_, _-_, _≤_, _<_, min}
 use native.Mathlib.Omega.{arith}
@@ -132,6 +132,33 @@ open-on f h = by-lt f 1 (λ l. let e : f ≡ 0 = omega arith in rw e) (λ l. let
 pub open-off : (f : ℕ) → 2 ≤ f → f ≤ 3 → isOpen (f - 2) ≡ isOpen f
 open-off f h k = by-lt f 3 (λ l. let e : f ≡ 2 = omega arith in rw e) (λ l. let e : f ≡ 3 = omega arith in rw e)
 
+-- where all fit, or no byte moves whatever is asked, it is the ordinary write and read
+module _ (used size f n : ℕ) (flags : f ≤ 3) where
+  pub whole-write : (f ≡ 1 → n ≤ size - used) → writesAll used size (isOpen f) (isResetting f) n ≡ writes used size (isOpen f) (isResetting f) n
+  whole-write h =
+      by-lt f 2
+      (λ k. by-lt f 1 (λ l. same (never epipe) (write-closed used size f n (omega arith)) refl) (λ l. fits (omega arith)))
+      (λ k. same (never ecanceled) (write-resetting used size f n k flags) refl)
+    where
+      same : (v : Verdict) → writes used size (isOpen f) (isResetting f) n ≡ v → wholly n (once size n) v ≡ v
+          → writesAll used size (isOpen f) (isResetting f) n ≡ writes used size (isOpen f) (isResetting f) n
+      same v e k = ap (wholly n (once size n)) e ∙ k ∙ sym e
+
+      fits : f ≡ 1 → writesAll used size (isOpen f) (isResetting f) n ≡ writes used size (isOpen f) (isResetting f) n
+      fits e =
+          by-lt 0 n (λ l. write-all-fits used size f n e l (omega (arith, h e)) (h e)) (λ l. same (never enomsg) (write-none used size f n e (omega arith)) refl)
+
+  pub whole-read : (f < 2 → n ≤ used) → readsAll used size (isOpen f) (isResetting f) n ≡ reads used (isOpen f) (isResetting f) n
+  whole-read h = by-lt f 2 fits (λ k. same (never ecanceled) (read-resetting used size f n k flags) refl)
+    where
+      same : (v : Verdict) → reads used (isOpen f) (isResetting f) n ≡ v → wholly n (cond (isOpen f) (once size n) (never epipe)) v ≡ v
+          → readsAll used size (isOpen f) (isResetting f) n ≡ reads used (isOpen f) (isResetting f) n
+      same v e k = ap (wholly n (cond (isOpen f) (once size n) (never epipe))) e ∙ k ∙ sym e
+
+      fits : f < 2 → readsAll used size (isOpen f) (isResetting f) n ≡ reads used (isOpen f) (isResetting f) n
+      fits k =
+          by-lt 0 n (λ l. read-all-fits used size f n k l (h k)) (λ l. same (never enomsg) (read-none used size f n k (omega arith)) refl)
+
 module _ {d : Reply Moves} {a u : ℕ} where
   decided-no : {c : ℤ} → d ≡ refuse c → Decided d a u c a u
   decided-no e = rw e (record { code = refl; actual = refl; used = refl })
@@ -177,6 +204,12 @@ module _ (used size f n : ℕ) (w : Bool) (a u : ℕ) where
   pub read-improper : proper used size f ≡ false → ReadDecided used size f n w a u einval a u
   read-improper e = decided-no (rw e)
 
+  pub write-all-improper : proper used size f ≡ false → WriteAllDecided used size f n w a u einval a u
+  write-all-improper e = decided-no (rw e)
+
+  pub read-all-improper : proper used size f ≡ false → ReadAllDecided used size f n w a u einval a u
+  read-all-improper e = decided-no (rw e)
+
   module _ (p : proper used size f ≡ true) where
     pub write-refused : {c : ℤ} → writes used size (isOpen f) (isResetting f) n ≡ never c → WriteDecided used size f n w a u c a u
     write-refused e = decided-no (write-is used size f n w p e)
@@ -204,3 +237,35 @@ module _ (used size f n : ℕ) (w : Bool) (a u : ℕ) where
 
     pub read-goes : {k : ℕ} → w ≡ false → reads used (isOpen f) (isResetting f) n ≡ move k → ReadDecided used size f n w a u goes k (used - k)
     read-goes {k} g e = decided-yes (read-is used size f n w p e ∙ rw g)
+
+    -- all or nothing
+    pub write-all-is : (f ≡ 1 → n ≤ size - used) → {r : ℤ} {a' u' : ℕ} → WriteDecided used size f n w a u r a' u' → WriteAllDecided used size f n w a u r a' u'
+    write-all-is h {r} {a'} {u'} d =
+        let k = from-proper used size f p .flags in
+        let e : writeDecision used size f n w ≡ writeAllDecision used size f n w =
+        write-is used size f n w p (sym (whole-write used size f n k h)) ∙ sym (rw p refl) in
+        subst (λ (x : Reply Moves). Decided x a u r a' u') e d
+
+    pub read-all-is : (f < 2 → n ≤ used) → {r : ℤ} {a' u' : ℕ} → ReadDecided used size f n w a u r a' u' → ReadAllDecided used size f n w a u r a' u'
+    read-all-is h {r} {a'} {u'} d =
+        let k = from-proper used size f p .flags in
+        let e : readDecision used size f n w ≡ readAllDecision used size f n w =
+        read-is used size f n w p (sym (whole-read used size f n k h)) ∙ sym (rw p refl) in
+        subst (λ (x : Reply Moves). Decided x a u r a' u') e d
+
+    module _ (e : f ≡ 1) (g : 0 < n) where
+      pub write-all-none : size < n → WriteAllDecided used size f n w a u einval a u
+      write-all-none k = decided-no (rw (p, write-all-not used size f n e g (omega arith), lt-ltb size n k))
+
+      pub write-all-pends : n ≤ size → size - used < n → WriteAllDecided used size f n w a u pends 0 used
+      write-all-pends k l = decided-yes (rw (p, write-all-not used size f n e g l, le-ltb size n k))
+
+    module _ (g : 0 < n) (k : used < n) where
+      pub read-all-closed : f ≡ 0 → ReadAllDecided used size f n w a u epipe a u
+      read-all-closed e = decided-no (rw (p, read-all-not used size f n (omega arith) g k, e))
+
+      pub read-all-none : f ≡ 1 → size < n → ReadAllDecided used size f n w a u einval a u
+      read-all-none e l = decided-no (rw (p, read-all-not used size f n (omega arith) g k, e, lt-ltb size n l))
+
+      pub read-all-pends : f ≡ 1 → n ≤ size → ReadAllDecided used size f n w a u pends 0 used
+      read-all-pends e l = decided-yes (rw (p, read-all-not used size f n (omega arith) g k, e, le-ltb size n l))

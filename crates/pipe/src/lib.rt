@@ -428,7 +428,15 @@ pub fn write_all_decide(
             return PEND;
         }
     }
-    write_decide(used, size, flags, request_len, has_reader, actual_bytes, new_used)
+    write_decide(
+        used,
+        size,
+        flags,
+        request_len,
+        has_reader,
+        actual_bytes,
+        new_used,
+    )
 }
 
 // Refusals as read, whoever waits. OK; WAKE_WRITER: then those that wait are to write, the first first, as far as there is room; PEND: the caller is to wait.
@@ -497,5 +505,13 @@ pub fn read_all_decide(
             return PEND;
         }
     }
-    read_decide(used, size, flags, request_len, has_writer, actual_bytes, new_used)
+    read_decide(
+        used,
+        size,
+        flags,
+        request_len,
+        has_writer,
+        actual_bytes,
+        new_used,
+    )
 }
