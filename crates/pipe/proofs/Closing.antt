@@ -12,9 +12,9 @@ use Rattle.store.specs.Store.{Reply, refuse, answer, left}
 use Rattle.store.specs.History.{Step, Ran, fresh, ran, Made}
 use Rattle.store.proofs.Histories.{runs}
 use Rattle.ring_buf.specs.Ring.{append, leave}
-use Rattle.pipe.specs.Pipe.{Pipe, Verdict, never, later, move, moved, done, holding, toWrite, toRead, write, read}
+use Rattle.pipe.specs.Pipe.{Pipe, Verdict, never, later, move, moved, done, holding, toWrite, toWriteAll, toRead, toReadAll, write, writeAll, read, readAll}
 use Rattle.pipe.specs.Post.{formed, object, layout}
-use Rattle.pipe.specs.History.{Call, writes, reads, resets, closes, clears, does, gives, putBy, Closed, Readable, Ends, cancelled, Cancelled}
+use Rattle.pipe.specs.History.{Call, writes, writesAll, reads, readsAll, resets, closes, clears, does, gives, putBy, Closed, Readable, Ends, cancelled, Cancelled}
 use Rattle.pipe.proofs.Answers.{take-least}
 
 -- ---- closed
@@ -26,7 +26,9 @@ spared g p f h (move k) = h k
 
 still : (k : Call) (p : Pipe) → p .opened ≡ false → left (does k p) p .opened ≡ false
 still (writes l) p e = spared (λ q. q .opened) p (λ k. holding (append (take k l) (p .ring)) p) (λ k. refl) (toWrite (length l) p) ∙ e
+still (writesAll l) p e = spared (λ q. q .opened) p (λ k. holding (append (take k l) (p .ring)) p) (λ k. refl) (toWriteAll (length l) p) ∙ e
 still (reads n) p e = spared (λ q. q .opened) p (λ k. holding (leave k (p .ring)) p) (λ k. refl) (toRead n p) ∙ e
+still (readsAll n) p e = spared (λ q. q .opened) p (λ k. holding (leave k (p .ring)) p) (λ k. refl) (toReadAll n p) ∙ e
 still resets p e = e
 still closes p e = refl
 still clears p e = e
@@ -37,7 +39,13 @@ nothing-sent (writes l) p e = go (p .resetting) refl
     go : (t : Bool) → p .resetting ≡ t → putBy (writes l) (answer (write l p)) ≡ []
     go true x = rw x
     go false x = rw (x, e)
+nothing-sent (writesAll l) p e = go (p .resetting) refl
+  where
+    go : (t : Bool) → p .resetting ≡ t → putBy (writesAll l) (answer (writeAll l p)) ≡ []
+    go true x = rw x
+    go false x = rw (x, e)
 nothing-sent (reads n) p e = refl
+nothing-sent (readsAll n) p e = refl
 nothing-sent resets p e = refl
 nothing-sent closes p e = refl
 nothing-sent clears p e = refl
@@ -63,23 +71,16 @@ readable n p e f g =
 -- ---- resetting
 
 module _ (p : Pipe) (e : p .resetting ≡ true) (z : p .ring .held ≡ []) where
-  write-void : (l : List ℕ) → write l p ≡ refuse ecanceled
-  write-void l = rw e
-
-  read-void : (n : ℕ) → read n p ≡ refuse ecanceled
-  read-void n = rw e
+  -- a call that is refused so
+  none : (y : Reply Pipe) → y ≡ refuse ecanceled → (left y p .resetting ≡ true) × ((left y p .ring .held ≡ []) × (answer y ≡ ecanceled))
+  none y r =
+      (ap (λ (y : Reply Pipe). left y p .resetting) r ∙ e, (ap (λ (y : Reply Pipe). left y p .ring .held) r ∙ z, ap answer r))
 
   void : (k : Call) → (Ends k → ⊥) → (left (does k p) p .resetting ≡ true) × ((left (does k p) p .ring .held ≡ []) × cancelled k (answer (does k p)))
-  void (writes l) f = (
-    ap (λ (y : Reply Pipe). left y p .resetting) (write-void l)
-        ∙ e,
-    (ap (λ (y : Reply Pipe). left y p .ring .held) (write-void l) ∙ z, ap answer (write-void l)),
-  )
-  void (reads n) f = (
-    ap (λ (y : Reply Pipe). left y p .resetting) (read-void n)
-        ∙ e,
-    (ap (λ (y : Reply Pipe). left y p .ring .held) (read-void n) ∙ z, ap answer (read-void n)),
-  )
+  void (writes l) f = none (write l p) (rw e)
+  void (writesAll l) f = none (writeAll l p) (rw e)
+  void (reads n) f = none (read n p) (rw e)
+  void (readsAll n) f = none (readAll n p) (rw e)
   void resets f = (refl, (refl, tt))
   void closes f = absurd (f tt)
   void clears f = absurd (f tt)

@@ -3,7 +3,7 @@ use mathlib.Core.Path.{_≡_, refl, sym, ap, subst, _∙_}
 use mathlib.Core.Bool.{Bool, true, false, cond}
 use Prim.Native.Nat.{ℕ, _+_, _-_, _≤_, _<_, min}
 use native.Mathlib.Omega.{arith}
-use borrow.Author.Tests.{lt-ltb, le-ltb, lt-leb, le-leb, leb-true, ltb-true, eq-eqb, ne-eqb, eqb-false}
+use borrow.Author.Tests.{lt-ltb, le-ltb, lt-leb, le-leb, leb-true, ltb-true, ltb-false, eq-eqb, ne-eqb, eqb-false}
 use lib.Dec.{eqb, ltb, leb}
 use lib.IntN.{ℤ, pos, negsuc}
 use Rattle.thread.specs.Code.{einval, epipe, enomsg, ecanceled}
@@ -54,6 +54,40 @@ all-within n m v w (move k) x = go (ltb k n)
     go : (a : Bool) → Within n m (cond a v (move k))
     go true = w
     go false = x
+
+-- if bytes move, n do
+abbrev pub Every : ℕ → Verdict → Type 0
+Every n (never (pos c)) = ⊥
+Every n (never (negsuc c)) = Unit {0}
+Every n later = Unit {0}
+Every n (move k) = k ≡ n
+
+every : (n m : ℕ) (v : Verdict) → Every n v → (u : Verdict) → Within n m u → Every n (wholly n v u)
+every n m v e (never (pos c)) x = x
+every n m v e (never (negsuc c)) x = tt
+every n m v e later x = e
+every n m v e (move k) x = go (ltb k n) refl
+  where
+    go : (a : Bool) → ltb k n ≡ a → Every n (cond a v (move k))
+    go true f = e
+    go false f = omega (arith, ltb-false k n f, x .1 .0)
+
+once-every : (s n : ℕ) → Every n (once s n)
+once-every s n = go (ltb s n)
+  where
+    go : (b : Bool) → Every n (cond b (never einval) later)
+    go true = tt
+    go false = tt
+
+pub write-every : (u s : ℕ) (o r : Bool) (n : ℕ) → Every n (writesAll u s o r n)
+write-every u s o r n = every n (s - u) (once s n) (once-every s n) (writes u s o r n) (write-within u s o r n)
+
+pub read-every : (u s : ℕ) (o r : Bool) (n : ℕ) → Every n (readsAll u s o r n)
+read-every u s o r n = every n u (cond o (once s n) (never epipe)) (ends o) (reads u o r n) (read-within u o r n)
+  where
+    ends : (o : Bool) → Every n (cond o (once s n) (never epipe))
+    ends true = once-every s n
+    ends false = tt
 
 once-within : (s n m : ℕ) → Within n m (once s n)
 once-within s n m = go (ltb s n)

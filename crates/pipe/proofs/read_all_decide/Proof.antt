@@ -7,36 +7,25 @@ use Rattle.pipe.proofs.Verdicts.{read-all-improper, read-all-closed, re
 use borrow.Author.Needs.{needs}
 use Rattle.pipe.proofs.read_all_decide.Statement.{statement}
 use Rattle.pipe.proofs.read_all_decide.Tie as tie
-use Rattle.pipe.proofs.read_all_decide.Reads as reads
-use Rattle.pipe.proofs.read_all_decide.Lts as lts
-use Rattle.pipe.proofs.proper.Reads as proper-reads
-use Rattle.pipe.proofs.read_decide.Reads as read-decide-reads
 
--- src/lib.rt:484:9
 proper-requires : tie.Need-proper-requires
 proper-requires c κs = search needs
 
--- src/lib.rt:485:9
 returns : tie.Need-returns
 returns c = read-all-improper (c .before .before .args .used) (c .before .before .args .size) (c .before .before .args .flags) (c .before .before .args .request-len) (c .before .before .args .has-writer) (c .before .before .args .actual-bytes .now) (c .before .before .args .new-used .now) (sym (c .before .proper .ensures) ∙ not-true _ (c .if1 .taken))
 
--- src/lib.rt:490:17
 returns-2 : tie.Need-returns-2
 returns-2 c = read-all-closed (c .before .before .before .before .before .args .used) (c .before .before .before .before .before .args .size) (c .before .before .before .before .before .args .flags) (c .before .before .before .before .before .args .request-len) (c .before .before .before .before .before .args .has-writer) (c .before .before .before .before .before .args .actual-bytes .now) (c .before .before .before .before .before .args .new-used .now) (sym (c .before .before .before .before .proper .ensures) ∙ not-false _ (c .before .before .before .if1 .left)) (omega arith) (omega arith) (omega arith)
 
--- src/lib.rt:493:17
 returns-3 : tie.Need-returns-3
 returns-3 c = read-all-none (c .before .before .before .before .before .before .args .used) (c .before .before .before .before .before .before .args .size) (c .before .before .before .before .before .before .args .flags) (c .before .before .before .before .before .before .args .request-len) (c .before .before .before .before .before .before .args .has-writer) (c .before .before .before .before .before .before .args .actual-bytes .now) (c .before .before .before .before .before .before .args .new-used .now) (sym (c .before .before .before .before .before .proper .ensures) ∙ not-false _ (c .before .before .before .before .if1 .left)) (omega arith) (omega arith) (omega arith) (omega arith)
 
--- src/lib.rt:497:13
 returns-4 : tie.Need-returns-4
 returns-4 c = read-all-pends (c .before .before .before .before .before .before .args .used) (c .before .before .before .before .before .before .args .size) (c .before .before .before .before .before .before .args .flags) (c .before .before .before .before .before .before .args .request-len) (c .before .before .before .before .before .before .args .has-writer) (c .before .before .before .before .before .before .args .actual-bytes .now) (c .before .before .before .before .before .before .args .new-used .now) (sym (c .before .before .before .before .before .proper .ensures) ∙ not-false _ (c .before .before .before .before .if1 .left)) (omega arith) (omega arith) (omega arith) (omega arith)
 
--- src/lib.rt:500:5
 read-decide-requires : tie.Need-read-decide-requires
 read-decide-requires c κs = search needs
 
--- src/lib.rt:473:1
 returns-5 : tie.Need-returns-5
 returns-5 c =
     rw (answered {z = c .read-decide .result} (c .read-decide .ok))

@@ -7,36 +7,25 @@ use Rattle.pipe.proofs.Verdicts.{from-proper, write-all-improper, write
 use borrow.Author.Needs.{needs}
 use Rattle.pipe.proofs.write_all_decide.Statement.{statement}
 use Rattle.pipe.proofs.write_all_decide.Tie as tie
-use Rattle.pipe.proofs.write_all_decide.Reads as reads
-use Rattle.pipe.proofs.write_all_decide.Lts as lts
-use Rattle.pipe.proofs.proper.Reads as proper-reads
-use Rattle.pipe.proofs.write_decide.Reads as write-decide-reads
 
--- src/lib.rt:418:9
 proper-requires : tie.Need-proper-requires
 proper-requires c κs = search needs
 
--- src/lib.rt:419:9
 returns : tie.Need-returns
 returns c = write-all-improper (c .before .before .args .used) (c .before .before .args .size) (c .before .before .args .flags) (c .before .before .args .request-len) (c .before .before .args .has-reader) (c .before .before .args .actual-bytes .now) (c .before .before .args .new-used .now) (sym (c .before .proper .ensures) ∙ not-true _ (c .if1 .taken))
 
--- src/lib.rt:422:12
 sub-if3 : tie.Need-sub-if3
 sub-if3 c = omega (arith, from-proper (c .before .before .before .args .used) (c .before .before .before .args .size) (c .before .before .before .args .flags) (sym (c .before .before .proper .ensures) ∙ not-false _ (c .before .if1 .left)))
 
--- src/lib.rt:424:17
 returns-2 : tie.Need-returns-2
 returns-2 c = write-all-none (c .before .before .before .before .before .args .used) (c .before .before .before .before .before .args .size) (c .before .before .before .before .before .args .flags) (c .before .before .before .before .before .args .request-len) (c .before .before .before .before .before .args .has-reader) (c .before .before .before .before .before .args .actual-bytes .now) (c .before .before .before .before .before .args .new-used .now) (sym (c .before .before .before .before .proper .ensures) ∙ not-false _ (c .before .before .before .if1 .left)) (omega arith) (omega arith) (omega arith)
 
--- src/lib.rt:428:13
 returns-3 : tie.Need-returns-3
 returns-3 c = write-all-pends (c .before .before .before .before .before .args .used) (c .before .before .before .before .before .args .size) (c .before .before .before .before .before .args .flags) (c .before .before .before .before .before .args .request-len) (c .before .before .before .before .before .args .has-reader) (c .before .before .before .before .before .args .actual-bytes .now) (c .before .before .before .before .before .args .new-used .now) (sym (c .before .before .before .before .proper .ensures) ∙ not-false _ (c .before .before .before .if1 .left)) (omega arith) (omega arith) (omega arith) (omega arith)
 
--- src/lib.rt:431:5
 write-decide-requires : tie.Need-write-decide-requires
 write-decide-requires c κs = search needs
 
--- src/lib.rt:407:1
 returns-4 : tie.Need-returns-4
 returns-4 c =
     rw (answered {z = c .write-decide .result} (c .write-decide .ok))
