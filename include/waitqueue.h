@@ -457,6 +457,12 @@ static inline int64_t wq_k_ring_buf_put_n(struct wq_ring_buf *r, const uint8_t *
 {
     return wq_ring_buf_put_n(r->head, r->buf, r->buf_len, src, src_len);
 }
+/* src_len: all bytes of src went in. Refusals as write, which change nothing; then WQ_EINVAL: src_len is above the pipe's
+ * size, so that they never fit; WQ_EAGAIN: they do not fit now. */
+static inline int64_t wq_k_pipe_write_all(struct wq_pipe *p, const uint8_t *src, uint64_t src_len)
+{
+    return wq_pipe_write_all(p->head, p->buf, p->buf_len, src, src_len);
+}
 /* How many bytes came out, into the first of out: the smaller of out_len and what it held. WQ_EINVAL. */
 static inline int64_t wq_k_ring_buf_get_n(struct wq_ring_buf *r, uint8_t *out, uint64_t out_len)
 {
@@ -635,7 +641,9 @@ enum wq_read { WQ_READ_OK = 0, WQ_READ_WAKE_WRITER = 1, WQ_READ_PEND = 2 };
 
 int32_t wq_pipe_init(uint32_t *head, const uint8_t *buf, uint64_t buf_len, uint32_t size);
 int64_t wq_pipe_write(uint32_t *head, uint8_t *buf, uint64_t buf_len, const uint8_t *src, uint64_t src_len);
+int64_t wq_pipe_write_all(uint32_t *head, uint8_t *buf, uint64_t buf_len, const uint8_t *src, uint64_t src_len);
 int64_t wq_pipe_read(uint32_t *head, const uint8_t *buf, uint64_t buf_len, uint8_t *out, uint64_t out_len);
+int64_t wq_pipe_read_all(uint32_t *head, const uint8_t *buf, uint64_t buf_len, uint8_t *out, uint64_t out_len);
 int32_t wq_pipe_reset(uint32_t *head, const uint8_t *buf, uint64_t buf_len);
 int32_t wq_pipe_close(uint32_t *head, const uint8_t *buf, uint64_t buf_len);
 int32_t wq_pipe_clear_reset(uint32_t *head, const uint8_t *buf, uint64_t buf_len);
@@ -654,8 +662,12 @@ int32_t wq_pipe_is_resetting(const uint32_t *head, const uint8_t *buf, uint64_t 
  * write while other writers wait is to wait behind them, whatever the answer, unless it is below 0. */
 int32_t wq_pipe_write_decide(uint32_t used, uint32_t size, uint32_t flags, uint32_t request_len, bool has_reader,
                              uint32_t *actual_bytes, uint32_t *new_used); /* enum wq_write; refusals as write */
+int32_t wq_pipe_write_all_decide(uint32_t used, uint32_t size, uint32_t flags, uint32_t request_len, bool has_reader,
+                                 uint32_t *actual_bytes, uint32_t *new_used); /* enum wq_write; refusals as write_all */
 int32_t wq_pipe_read_decide(uint32_t used, uint32_t size, uint32_t flags, uint32_t request_len, bool has_writer,
                             uint32_t *actual_bytes, uint32_t *new_used); /* enum wq_read; refusals as read */
+int32_t wq_pipe_read_all_decide(uint32_t used, uint32_t size, uint32_t flags, uint32_t request_len, bool has_writer,
+                                uint32_t *actual_bytes, uint32_t *new_used); /* enum wq_read; refusals as read_all */
 
 /* WQ_OK: it is open and empty; WQ_EINVAL: size 0, or above the buffer's length, and p stays. */
 static inline int32_t wq_k_pipe_init(struct wq_pipe *p, uint8_t *buf, uint64_t buf_len, uint32_t size)
@@ -678,6 +690,12 @@ static inline int64_t wq_k_pipe_write(struct wq_pipe *p, const uint8_t *src, uin
 static inline int64_t wq_k_pipe_read(struct wq_pipe *p, uint8_t *out, uint64_t out_len)
 {
     return wq_pipe_read(p->head, p->buf, p->buf_len, out, out_len);
+}
+/* out_len: out was filled. Refusals, in this order, which change nothing: WQ_EINVAL; WQ_ECANCELED: resetting; WQ_ENOMSG:
+ * out_len is 0; if it holds fewer bytes, WQ_EPIPE: closed; WQ_EINVAL: out_len is above its size; WQ_EAGAIN. */
+static inline int64_t wq_k_pipe_read_all(struct wq_pipe *p, uint8_t *out, uint64_t out_len)
+{
+    return wq_pipe_read_all(p->head, p->buf, p->buf_len, out, out_len);
 }
 /* WQ_OK: it is empty and resetting; open or closed as it was. WQ_EINVAL. */
 static inline int32_t wq_k_pipe_reset(struct wq_pipe *p) { return wq_pipe_reset(p->head, p->buf, p->buf_len); }

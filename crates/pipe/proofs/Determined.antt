@@ -14,8 +14,8 @@ use Rattle.store.proofs.Determined.{did-only, reads-only, hands-only, starts-on
 use Rattle.ring_buf.specs.Bytes.{sound, may}
 use Rattle.ring_buf.proofs.Headers.{is-sound}
 use Rattle.ring_buf.proofs.Determined as ring
-use Rattle.pipe.specs.Pipe.{Pipe, write, read, reset, close, clearReset}
-use Rattle.pipe.specs.Post.{isOpen, isResetting, layout, formed, new, Moves, writeDecision, readDecision, Decided}
+use Rattle.pipe.specs.Pipe.{Pipe, write, writeAll, read, readAll, reset, close, clearReset}
+use Rattle.pipe.specs.Post.{isOpen, isResetting, layout, formed, new, Moves, writeDecision, writeAllDecision, readDecision, readAllDecision, Decided}
 use Rattle.pipe.specs.Determined.{Determined}
 use Rattle.pipe.proofs.Headers.{from-formed}
 
@@ -55,7 +55,9 @@ determined =
     record {
       init = λ n h b. starts-only faithful h b (may n b) (new n b);
       write = λ src h b. did-only faithful h b (write src);
+      write-all = λ src h b. did-only faithful h b (writeAll src);
       read = λ h b out. hands-only faithful h b (read (length out)) _ (said _);
+      read-all = λ h b out. hands-only faithful h b (readAll (length out)) _ (said _);
       reset = λ h b. reads-only faithful h b reset;
       close = λ h b. reads-only faithful h b close;
       clear-reset = λ h b. reads-only faithful h b clearReset;
@@ -67,5 +69,7 @@ determined =
       is-open = λ h b. said _;
       is-resetting = λ h b. said _;
       write-decide = λ used n flags len reader. decided-only (writeDecision used n flags len reader);
+      write-all-decide = λ used n flags len reader. decided-only (writeAllDecision used n flags len reader);
       read-decide = λ used n flags len writer. decided-only (readDecision used n flags len writer);
+      read-all-decide = λ used n flags len writer. decided-only (readAllDecision used n flags len writer);
     }

@@ -2,6 +2,7 @@ pub mod Verdicts
 pub mod Headers
 pub mod Answers
 pub mod Histories
+pub mod Whole
 pub mod Closing
 pub mod Agreements
 pub mod HandOvers

@@ -8,6 +8,7 @@ use lib.Dec.{eqb, ltb, leb}
 use lib.IntN.{ℤ, pos, negsuc}
 use Rattle.thread.specs.Code.{einval, epipe, enomsg, ecanceled}
 use Rattle.store.specs.Store.{Reply, refuse, accept}
+use Rattle.seq.proofs.Order.{clash}
 use Rattle.store.proofs.Laws.{both-true}
 use Rattle.ring_buf.proofs.Rings.{by-lt}
 use Rattle.pipe.specs.Pipe.{Verdict, never, later, move, wholly, once, writes, writesAll, reads, readsAll}
@@ -167,31 +168,37 @@ pub open-off : (f : ℕ) → 2 ≤ f → f ≤ 3 → isOpen (f - 2) ≡ isOpen f
 open-off f h k = by-lt f 3 (λ l. let e : f ≡ 2 = omega arith in rw e) (λ l. let e : f ≡ 3 = omega arith in rw e)
 
 -- where all fit, or no byte moves whatever is asked, it is the ordinary write and read
-module _ (used size f n : ℕ) (flags : f ≤ 3) where
-  pub whole-write : (f ≡ 1 → n ≤ size - used) → writesAll used size (isOpen f) (isResetting f) n ≡ writes used size (isOpen f) (isResetting f) n
-  whole-write h =
-      by-lt f 2
-      (λ k. by-lt f 1 (λ l. same (never epipe) (write-closed used size f n (omega arith)) refl) (λ l. fits (omega arith)))
-      (λ k. same (never ecanceled) (write-resetting used size f n k flags) refl)
+module _ (used size n : ℕ) where
+  pub whole-write : (o r : Bool) → (o ≡ true → r ≡ false → n ≤ size - used) → writesAll used size o r n ≡ writes used size o r n
+  whole-write o true h = refl
+  whole-write false false h = refl
+  whole-write true false h = go (eqb n 0) refl
     where
-      same : (v : Verdict) → writes used size (isOpen f) (isResetting f) n ≡ v → wholly n (once size n) v ≡ v
-          → writesAll used size (isOpen f) (isResetting f) n ≡ writes used size (isOpen f) (isResetting f) n
-      same v e k = ap (wholly n (once size n)) e ∙ k ∙ sym e
+      go : (x : Bool) → eqb n 0 ≡ x → writesAll used size true false n ≡ writes used size true false n
+      go true e = rw e
+      go false e =
+          let k : 0 < n = omega (arith, eqb-false n 0 e) in
+          let m : min n (size - used) ≡ n = omega (arith, h refl refl) in
+          rw (e, lt-ltb used size (omega (arith, h refl refl)), m, le-ltb n n (omega arith))
 
-      fits : f ≡ 1 → writesAll used size (isOpen f) (isResetting f) n ≡ writes used size (isOpen f) (isResetting f) n
-      fits e =
-          by-lt 0 n (λ l. write-all-fits used size f n e l (omega (arith, h e)) (h e)) (λ l. same (never enomsg) (write-none used size f n e (omega arith)) refl)
-
-  pub whole-read : (f < 2 → n ≤ used) → readsAll used size (isOpen f) (isResetting f) n ≡ reads used (isOpen f) (isResetting f) n
-  whole-read h = by-lt f 2 fits (λ k. same (never ecanceled) (read-resetting used size f n k flags) refl)
+  pub whole-read : (o r : Bool) → (r ≡ false → n ≤ used) → readsAll used size o r n ≡ reads used o r n
+  whole-read o true h = refl
+  whole-read o false h = go (eqb n 0) refl
     where
-      same : (v : Verdict) → reads used (isOpen f) (isResetting f) n ≡ v → wholly n (cond (isOpen f) (once size n) (never epipe)) v ≡ v
-          → readsAll used size (isOpen f) (isResetting f) n ≡ reads used (isOpen f) (isResetting f) n
-      same v e k = ap (wholly n (cond (isOpen f) (once size n) (never epipe))) e ∙ k ∙ sym e
+      go : (x : Bool) → eqb n 0 ≡ x → readsAll used size o false n ≡ reads used o false n
+      go true e = rw e
+      go false e =
+          let k : 0 < n = omega (arith, eqb-false n 0 e) in
+          let m : min n used ≡ n = omega (arith, h refl) in
+          rw (e, lt-ltb 0 used (omega (arith, h refl)), m, le-ltb n n (omega arith))
 
-      fits : f < 2 → readsAll used size (isOpen f) (isResetting f) n ≡ reads used (isOpen f) (isResetting f) n
-      fits k =
-          by-lt 0 n (λ l. read-all-fits used size f n k l (h k)) (λ l. same (never enomsg) (read-none used size f n k (omega arith)) refl)
+-- flags that say open and not resetting; not resetting
+only-open : (f : ℕ) → f ≤ 3 → isOpen f ≡ true → isResetting f ≡ false → f ≡ 1
+only-open f k o r =
+    by-lt f 2 (λ l. by-lt f 1 (λ z. let e : f ≡ 0 = omega arith in clash (sym (rw e at o))) (λ z. omega arith)) (λ l. clash (sym (resetting-on f l k) ∙ r))
+
+not-resetting : (f : ℕ) → f ≤ 3 → isResetting f ≡ false → f < 2
+not-resetting f k r = by-lt f 2 (λ l. l) (λ l. clash (sym (resetting-on f l k) ∙ r))
 
 module _ {d : Reply Moves} {a u : ℕ} where
   decided-no : {c : ℤ} → d ≡ refuse c → Decided d a u c a u
@@ -277,14 +284,14 @@ module _ (used size f n : ℕ) (w : Bool) (a u : ℕ) where
     write-all-is h {r} {a'} {u'} d =
         let k = from-proper used size f p .flags in
         let e : writeDecision used size f n w ≡ writeAllDecision used size f n w =
-        write-is used size f n w p (sym (whole-write used size f n k h)) ∙ sym (rw p refl) in
+        write-is used size f n w p (sym (whole-write used size n (isOpen f) (isResetting f) (λ o r. h (only-open f k o r)))) ∙ sym (rw p refl) in
         subst (λ (x : Reply Moves). Decided x a u r a' u') e d
 
     pub read-all-is : (f < 2 → n ≤ used) → {r : ℤ} {a' u' : ℕ} → ReadDecided used size f n w a u r a' u' → ReadAllDecided used size f n w a u r a' u'
     read-all-is h {r} {a'} {u'} d =
         let k = from-proper used size f p .flags in
         let e : readDecision used size f n w ≡ readAllDecision used size f n w =
-        read-is used size f n w p (sym (whole-read used size f n k h)) ∙ sym (rw p refl) in
+        read-is used size f n w p (sym (whole-read used size n (isOpen f) (isResetting f) (λ r. h (not-resetting f k r)))) ∙ sym (rw p refl) in
         subst (λ (x : Reply Moves). Decided x a u r a' u') e d
 
     module _ (e : f ≡ 1) (g : 0 < n) where

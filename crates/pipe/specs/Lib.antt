@@ -2,6 +2,7 @@ pub mod Pipe
 pub mod Post
 pub mod History
 pub mod HandOver
+pub mod Whole
 pub mod Waiting
 pub mod Fair
 pub mod Upstream

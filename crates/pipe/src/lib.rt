@@ -116,27 +116,28 @@ pub fn write(h: &mut [u32], b: &mut [u8], src: &[u8]) -> i64
 }
 
 // A write to a pipe that does not take all n bytes.
-fn write_all_refusal(h: &[u32], b: &[u8], src: &[u8]) -> i64
+fn write_all_refusal(h: &[u32], b: &[u8], src: &[u8]) -> i32
     requires { ⌜ (getD (now h) 3 0 ≡ 1 → 0 < length (now src) → getD (now h) 0 0 - getD (now h) 2 0 < length (now src)) ⌝ }
     ensures { λ r. ⌜ WritesAll (now (src .entry)) (now (h .entry)) (now (b .entry)) r (now (h .entry)) (now (b .entry)) ⌝ }
 {
     if !formed(h, b) {
-        return EINVAL as i64;
+        return EINVAL;
     }
     let flags = h[3];
     if FLAG_RESET <= flags {
-        return ECANCELED as i64;
+        return ECANCELED;
     }
     if flags == 0 {
-        return EPIPE as i64;
+        return EPIPE;
     }
-    if src.len() == 0 {
-        return ENOMSG as i64;
+    let n = src.len();
+    if n < 1 {
+        return ENOMSG;
     }
-    if seq::wide(h[0]) < src.len() {
-        return EINVAL as i64;
+    if seq::wide(h[0]) < n {
+        return EINVAL;
     }
-    EAGAIN as i64
+    EAGAIN
 }
 
 // All bytes of src went in: how many. Refusals as write; EAGAIN: there is no room for all now; EINVAL, too: they are more than the pipe can hold.
@@ -147,15 +148,16 @@ pub fn write_all(h: &mut [u32], b: &mut [u8], src: &[u8]) -> i64
         return EINVAL as i64;
     }
     if h[3] == FLAG_OPEN {
-        if h[2] < h[0] {
+        let used = h[2];
+        if used < h[0] {
             if 0 < src.len() {
-                if src.len() <= seq::wide(h[0] - h[2]) {
+                if src.len() <= seq::wide(h[0] - used) {
                     return ring_buf::put_n(h, b, src);
                 }
             }
         }
     }
-    write_all_refusal(h, b, src)
+    write_all_refusal(h, b, src) as i64
 }
 
 // A read from a pipe that gives no byte.
@@ -198,28 +200,28 @@ pub fn read(h: &mut [u32], b: &[u8], out: &mut [u8]) -> i64
 }
 
 // A read from a pipe that does not give all n bytes.
-fn read_all_refusal(h: &[u32], b: &[u8], n: usize) -> i64
+fn read_all_refusal(h: &[u32], b: &[u8], n: usize) -> i32
     requires { ⌜ (getD (now h) 3 0 < 2 → 0 < n → getD (now h) 2 0 < n) ⌝ }
     ensures { λ r. ⌜ Did layout (doReadAll n) (now (h .entry)) (now (b .entry)) r (now (h .entry)) (now (b .entry)) ⌝ }
     ensures { λ r. ⌜ handed layout (takenAll n) (now (h .entry)) (now (b .entry)) ≡ [] ⌝ }
 {
     if !formed(h, b) {
-        return EINVAL as i64;
+        return EINVAL;
     }
     let flags = h[3];
     if FLAG_RESET <= flags {
-        return ECANCELED as i64;
+        return ECANCELED;
     }
-    if n == 0 {
-        return ENOMSG as i64;
+    if n < 1 {
+        return ENOMSG;
     }
     if flags == 0 {
-        return EPIPE as i64;
+        return EPIPE;
     }
     if seq::wide(h[0]) < n {
-        return EINVAL as i64;
+        return EINVAL;
     }
-    EAGAIN as i64
+    EAGAIN
 }
 
 // The whole of out was filled: how many bytes. Refusals as read; if fewer are held EPIPE: closed, EINVAL: out is longer than the pipe, EAGAIN.
@@ -236,7 +238,7 @@ pub fn read_all(h: &mut [u32], b: &[u8], out: &mut [u8]) -> i64
             }
         }
     }
-    read_all_refusal(h, b, out.len())
+    read_all_refusal(h, b, out.len()) as i64
 }
 
 // OK: nothing is held, and it is resetting.
@@ -492,7 +494,7 @@ pub fn read_all_decide(
     if !proper(used, size, flags) {
         return EINVAL;
     }
-    if flags < FLAG_RESET {
+    if flags <= FLAG_OPEN {
         if used < request_len {
             if flags == 0 {
                 return EPIPE;

@@ -1,5 +1,5 @@
 // Pipes: the header's four words, and the bytes.
-ghost use Rattle.pipe.specs.Post.{Starts, Writes, Reads, Resets, Closes, ClearsReset, GetsSpace, GetsData, GetsSize, SaysEmpty, SaysFull, SaysOpen, SaysResetting, WriteDecided, ReadDecided};
+ghost use Rattle.pipe.specs.Post.{Starts, Writes, WritesAll, Reads, ReadsAll, Resets, Closes, ClearsReset, GetsSpace, GetsData, GetsSize, SaysEmpty, SaysFull, SaysOpen, SaysResetting, WriteDecided, WriteAllDecided, ReadDecided, ReadAllDecided};
 
 #[no_mangle]
 pub extern "C" fn wq_pipe_init(head: &mut [u32; 4], buf: &[u8], size: u32) -> i32
@@ -16,10 +16,24 @@ pub extern "C" fn wq_pipe_write(head: &mut [u32; 4], buf: &mut [u8], src: &[u8])
 }
 
 #[no_mangle]
+pub extern "C" fn wq_pipe_write_all(head: &mut [u32; 4], buf: &mut [u8], src: &[u8]) -> i64
+    ensures { λ r. ⌜ WritesAll (now (src .entry)) (now (head .entry)) (now (buf .entry)) r (now (head .exit)) (now (buf .exit)) ⌝ }
+{
+    pipe::write_all(head, buf, src)
+}
+
+#[no_mangle]
 pub extern "C" fn wq_pipe_read(head: &mut [u32; 4], buf: &[u8], out: &mut [u8]) -> i64
     ensures { λ r. ⌜ Reads (now (head .entry)) (now (buf .entry)) (now (out .entry)) r (now (head .exit)) (now (out .exit)) ⌝ }
 {
     pipe::read(head, buf, out)
+}
+
+#[no_mangle]
+pub extern "C" fn wq_pipe_read_all(head: &mut [u32; 4], buf: &[u8], out: &mut [u8]) -> i64
+    ensures { λ r. ⌜ ReadsAll (now (head .entry)) (now (buf .entry)) (now (out .entry)) r (now (head .exit)) (now (out .exit)) ⌝ }
+{
+    pipe::read_all(head, buf, out)
 }
 
 #[no_mangle]
@@ -116,6 +130,29 @@ pub extern "C" fn wq_pipe_write_decide(
 }
 
 #[no_mangle]
+pub extern "C" fn wq_pipe_write_all_decide(
+    used: u32,
+    size: u32,
+    flags: u32,
+    request_len: u32,
+    has_reader: bool,
+    actual_bytes: &mut u32,
+    new_used: &mut u32,
+) -> i32
+    ensures { λ r. ⌜ WriteAllDecided used «size» flags «request_len» «has_reader» (now («actual_bytes» .entry)) (now («new_used» .entry)) r (now («actual_bytes» .exit)) (now («new_used» .exit)) ⌝ }
+{
+    pipe::write_all_decide(
+        used,
+        size,
+        flags,
+        request_len,
+        has_reader,
+        actual_bytes,
+        new_used,
+    )
+}
+
+#[no_mangle]
 pub extern "C" fn wq_pipe_read_decide(
     used: u32,
     size: u32,
@@ -128,6 +165,29 @@ pub extern "C" fn wq_pipe_read_decide(
     ensures { λ r. ⌜ ReadDecided used «size» flags «request_len» «has_writer» (now («actual_bytes» .entry)) (now («new_used» .entry)) r (now («actual_bytes» .exit)) (now («new_used» .exit)) ⌝ }
 {
     pipe::read_decide(
+        used,
+        size,
+        flags,
+        request_len,
+        has_writer,
+        actual_bytes,
+        new_used,
+    )
+}
+
+#[no_mangle]
+pub extern "C" fn wq_pipe_read_all_decide(
+    used: u32,
+    size: u32,
+    flags: u32,
+    request_len: u32,
+    has_writer: bool,
+    actual_bytes: &mut u32,
+    new_used: &mut u32,
+) -> i32
+    ensures { λ r. ⌜ ReadAllDecided used «size» flags «request_len» «has_writer» (now («actual_bytes» .entry)) (now («new_used» .entry)) r (now («actual_bytes» .exit)) (now («new_used» .exit)) ⌝ }
+{
+    pipe::read_all_decide(
         used,
         size,
         flags,

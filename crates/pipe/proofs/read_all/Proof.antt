@@ -2,7 +2,7 @@ use mathlib.Core.Logic.{⊎-elim}
 use mathlib.Core.Path.{refl}
 use native.Mathlib.Omega.{arith}
 use lib.ListN.{length}
-use Rattle.seq.proofs.Integers.{answered64}
+use Rattle.seq.proofs.Integers.{answered, answered64, plain64}
 use Rattle.store.proofs.Laws.{did-bad, handed-bad}
 use Rattle.pipe.specs.Pipe.{readAll, takenAll}
 use Rattle.pipe.specs.Post.{layout}
@@ -11,53 +11,78 @@ use Rattle.pipe.proofs.Answers.{took-all, took-all-out}
 use borrow.Author.Needs.{needs}
 use Rattle.pipe.proofs.read_all.Statement.{statement}
 use Rattle.pipe.proofs.read_all.Tie as tie
+use Rattle.pipe.proofs.read_all.Reads as reads
+use Rattle.pipe.proofs.read_all.Lts as lts
+use Rattle.pipe.proofs.read_all_refusal.Reads as read-all-refusal-reads
+use Rattle.ring_buf.proofs.get_n.Reads as get-n-reads
+use Rattle.seq.proofs.wide.Reads as wide-reads
 
+-- src/lib.rt:230:16
 cast-result : tie.Need-cast-result
 cast-result c = search needs
 
+-- src/lib.rt:230:9
 returns : tie.Need-returns
 returns c =
-    let f = no-words (c .before .before .before .before .args .h .now) (c .before .before .before .before .args .b .now) (omega arith) in
-    let n = length (c .before .before .before .before .args .out .now) in
-    (did-bad layout (readAll n) (c .before .before .before .before .args .h .now) (c .before .before .before .before .args .b .now) f, rw (handed-bad layout (c .before .before .before .before .args .h .now) (c .before .before .before .before .args .b .now) (takenAll n) f) refl)
+    let a = c .before .before .before .before .args in
+    let f = no-words (a .h .now) (a .b .now) (omega arith) in
+    let n = length (a .out .now) in
+    (did-bad layout (readAll n) (a .h .now) (a .b .now) f, rw (handed-bad layout (a .h .now) (a .b .now) (takenAll n) f) refl)
 
+-- src/lib.rt:232:8
 slice-read-if2 : tie.Need-slice-read-if2
 slice-read-if2 c = search needs
 
+-- src/lib.rt:234:39
 slice-read-wide : tie.Need-slice-read-wide
 slice-read-wide c = search needs
 
+-- src/lib.rt:234:29
 wide-requires : tie.Need-wide-requires
 wide-requires c κs = search needs
 
+-- src/lib.rt:235:17
 get-n-requires : tie.Need-get-n-requires
 get-n-requires c κs = search needs
 
+-- src/lib.rt:235:17
 same-length : tie.Need-same-length
 same-length c = search needs
 
+-- src/lib.rt:235:17
 same-length-2 : tie.Need-same-length-2
 same-length-2 c = search needs
 
+-- src/lib.rt:235:17
 returns-2 : tie.Need-returns-2
 returns-2 c =
-    let n = length (c .before .before .before .before .before .before .before .before .before .before .before .before .before .before .before .before .before .args .out .now) in
-    let w = c .before .before .before .before .before .before .before .before .wide .ensures in (
-      rw (answered64 {z = c .before .before .before .before .get-n .result} (c .before .before .before .before .get-n .ok))
-          (took-all (c .before .before .before .before .before .before .before .before .before .before .before .before .before .before .before .before .before .args .h .now) (c .before .before .before .before .before .before .before .before .before .before .before .before .before .before .before .before .before .args .b .now) (omega arith) n (omega arith) (omega arith) (omega (arith, w)) (c .before .before .before .before .get-n .ensures .0)),
-      rw (took-all-out (c .before .before .before .before .before .before .before .before .before .before .before .before .before .before .before .before .before .args .h .now) (c .before .before .before .before .before .before .before .before .before .before .before .before .before .before .before .before .before .args .b .now) (omega arith) n (omega arith) (omega arith) (omega (arith, w))) at (c .before .before .before .before .get-n .ensures .1),
+    let a = c .before .before .before .before .before .before .before .before .before .before .before .before .before .before .before .before .before .args in
+    let n = length (a .out .now) in
+    let w = c .before .before .before .before .before .before .before .before .wide .ensures in
+    let u = c .before .before .before .before .get-n in (
+      rw (answered64 {z = u .result} (u .ok))
+          (took-all (a .h .now) (a .b .now) (omega arith) n (omega arith) (omega arith) (omega (arith, w)) (u .ensures .0)),
+      rw (took-all-out (a .h .now) (a .b .now) (omega arith) n (omega arith) (omega arith) (omega (arith, w))) at (u .ensures .1),
     )
 
+-- src/lib.rt:239:5
 read-all-refusal-requires : tie.Need-read-all-refusal-requires
 read-all-refusal-requires c κs =
     λ e f. ⊎-elim (λ x. omega arith) (⊎-elim (λ x. omega arith) (λ x. omega (arith, x))) (c .before .if2 .came)
 
+-- src/lib.rt:239:5
+cast-result-2 : tie.Need-cast-result-2
+cast-result-2 c = let u = c .read-all-refusal in rw (answered {z = u .result} (u .ok)) (record { sfits = omega (arith, u .ok) })
+
+-- src/lib.rt:226:1
 same-length-3 : tie.Need-same-length-3
 same-length-3 c = search needs
 
+-- src/lib.rt:226:1
 returns-3 : tie.Need-returns-3
 returns-3 c =
-    (rw (answered64 {z = c .read-all-refusal .result} (c .read-all-refusal .ok)) (c .read-all-refusal .ensures .0), rw (c .read-all-refusal .ensures .1) refl)
+    let u = c .read-all-refusal in
+    (rw (answered {z = u .result} (u .ok), plain64 {z = u .result} (record { sfits = u .ok })) (u .ensures .0), rw (u .ensures .1) refl)
 
 pub read-all-spec : {M : Type 1} → statement M
 read-all-spec =
@@ -73,5 +98,6 @@ read-all-spec =
     same-length-2
     returns-2
     read-all-refusal-requires
+    cast-result-2
     same-length-3
     returns-3)

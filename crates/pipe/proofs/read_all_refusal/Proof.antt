@@ -9,60 +9,66 @@ use Rattle.pipe.proofs.Answers.{read-all-cancelled, read-all-nothing, r
 use borrow.Author.Needs.{needs}
 use Rattle.pipe.proofs.read_all_refusal.Statement.{statement}
 use Rattle.pipe.proofs.read_all_refusal.Tie as tie
+use Rattle.pipe.proofs.read_all_refusal.Reads as reads
+use Rattle.pipe.proofs.read_all_refusal.Lts as lts
+use Rattle.pipe.proofs.formed.Reads as formed-reads
+use Rattle.seq.proofs.wide.Reads as wide-reads
 
+-- src/lib.rt:206:9
 formed-requires : tie.Need-formed-requires
 formed-requires c κs = search needs
 
-cast-result : tie.Need-cast-result
-cast-result c = search needs
-
+-- src/lib.rt:207:9
 returns : tie.Need-returns
 returns c =
+    let a = c .before .before .before .before .args in
     let f = sym (c .before .formed .ensures) ∙ not-true _ (c .if1 .taken) in
-    (did-bad layout (readAll (c .before .before .before .before .args .n)) (c .before .before .before .before .args .h .now) (c .before .before .before .before .args .b .now) f, handed-bad layout (c .before .before .before .before .args .h .now) (c .before .before .before .before .args .b .now) (takenAll (c .before .before .before .before .args .n)) f)
+    (did-bad layout (readAll (a .n)) (a .h .now) (a .b .now) f, handed-bad layout (a .h .now) (a .b .now) (takenAll (a .n)) f)
 
+-- src/lib.rt:209:17
 shared-slice-read-flags : tie.Need-shared-slice-read-flags
-shared-slice-read-flags c = omega (arith, (from-formed (c .before .before .before .before .before .args .h .now) (c .before .before .before .before .before .args .b .now) (sym (c .before .before .formed .ensures) ∙ not-false _ (c .before .if1 .left))))
+shared-slice-read-flags c =
+    let a = c .before .before .before .before .before .args in omega (arith, (from-formed (a .h .now) (a .b .now) (sym (c .before .before .formed .ensures) ∙ not-false _ (c .before .if1 .left))))
 
-cast-result-2 : tie.Need-cast-result-2
-cast-result-2 c = search needs
-
+-- src/lib.rt:211:9
 returns-2 : tie.Need-returns-2
-returns-2 c = read-all-cancelled (c .before .before .before .before .before .before .args .h .now) (c .before .before .before .before .before .before .args .b .now) (from-formed (c .before .before .before .before .before .before .args .h .now) (c .before .before .before .before .before .before .args .b .now) (sym (c .before .before .before .formed .ensures) ∙ not-false _ (c .before .before .if1 .left))) (c .before .before .before .before .before .before .args .n) (omega arith)
+returns-2 c =
+    let a = c .before .before .before .before .before .before .args in
+    read-all-cancelled (a .h .now) (a .b .now) (from-formed (a .h .now) (a .b .now) (sym (c .before .before .before .formed .ensures) ∙ not-false _ (c .before .before .if1 .left))) (a .n) (omega arith)
 
-cast-result-3 : tie.Need-cast-result-3
-cast-result-3 c = search needs
-
+-- src/lib.rt:214:9
 returns-3 : tie.Need-returns-3
-returns-3 c = read-all-nothing (c .before .before .before .before .before .before .before .args .h .now) (c .before .before .before .before .before .before .before .args .b .now) (from-formed (c .before .before .before .before .before .before .before .args .h .now) (c .before .before .before .before .before .before .before .args .b .now) (sym (c .before .before .before .before .formed .ensures) ∙ not-false _ (c .before .before .before .if1 .left))) (c .before .before .before .before .before .before .before .args .n) (omega arith) (omega arith)
+returns-3 c =
+    let a = c .before .before .before .before .before .before .before .args in
+    read-all-nothing (a .h .now) (a .b .now) (from-formed (a .h .now) (a .b .now) (sym (c .before .before .before .before .formed .ensures) ∙ not-false _ (c .before .before .before .if1 .left))) (a .n) (omega arith) (omega arith)
 
-cast-result-4 : tie.Need-cast-result-4
-cast-result-4 c = search needs
-
+-- src/lib.rt:217:9
 returns-4 : tie.Need-returns-4
 returns-4 c =
-    read-all-broken (c .before .before .before .before .before .before .before .before .args .h .now) (c .before .before .before .before .before .before .before .before .args .b .now) (from-formed (c .before .before .before .before .before .before .before .before .args .h .now) (c .before .before .before .before .before .before .before .before .args .b .now) (sym (c .before .before .before .before .before .formed .ensures) ∙ not-false _ (c .before .before .before .before .if1 .left))) (c .before .before .before .before .before .before .before .before .args .n) (omega arith) (c .before .before .before .before .before .before .before .before .pre (omega arith) (omega arith)) (omega arith)
+    let a = c .before .before .before .before .before .before .before .before .args in
+    read-all-broken (a .h .now) (a .b .now) (from-formed (a .h .now) (a .b .now) (sym (c .before .before .before .before .before .formed .ensures) ∙ not-false _ (c .before .before .before .before .if1 .left))) (a .n) (omega arith) (c .before .before .before .before .before .before .before .before .pre (omega arith) (omega arith)) (omega arith)
 
+-- src/lib.rt:219:18
 shared-slice-read-wide : tie.Need-shared-slice-read-wide
-shared-slice-read-wide c = omega (arith, (from-formed (c .before .before .before .before .before .before .before .before .before .args .h .now) (c .before .before .before .before .before .before .before .before .before .args .b .now) (sym (c .before .before .before .before .before .before .formed .ensures) ∙ not-false _ (c .before .before .before .before .before .if1 .left))))
+shared-slice-read-wide c =
+    let a = c .before .before .before .before .before .before .before .before .before .args in omega (arith, (from-formed (a .h .now) (a .b .now) (sym (c .before .before .before .before .before .before .formed .ensures) ∙ not-false _ (c .before .before .before .before .before .if1 .left))))
 
+-- src/lib.rt:219:8
 wide-requires : tie.Need-wide-requires
 wide-requires c κs = search needs
 
-cast-result-5 : tie.Need-cast-result-5
-cast-result-5 c = search needs
-
+-- src/lib.rt:220:9
 returns-5 : tie.Need-returns-5
 returns-5 c =
-    read-all-too-long (c .before .before .before .before .before .before .before .before .before .before .before .args .h .now) (c .before .before .before .before .before .before .before .before .before .before .before .args .b .now) (from-formed (c .before .before .before .before .before .before .before .before .before .before .before .args .h .now) (c .before .before .before .before .before .before .before .before .before .before .before .args .b .now) (sym (c .before .before .before .before .before .before .before .before .formed .ensures) ∙ not-false _ (c .before .before .before .before .before .before .before .if1 .left))) (c .before .before .before .before .before .before .before .before .before .before .before .args .n) (omega arith) (c .before .before .before .before .before .before .before .before .before .before .before .pre (omega arith) (omega arith)) (omega arith)
+    let a = c .before .before .before .before .before .before .before .before .before .before .before .args in
+    read-all-too-long (a .h .now) (a .b .now) (from-formed (a .h .now) (a .b .now) (sym (c .before .before .before .before .before .before .before .before .formed .ensures) ∙ not-false _ (c .before .before .before .before .before .before .before .if1 .left))) (a .n) (omega arith) (c .before .before .before .before .before .before .before .before .before .before .before .pre (omega arith) (omega arith)) (omega arith)
     (omega (arith, c .before .wide .ensures))
 
-cast-result-6 : tie.Need-cast-result-6
-cast-result-6 c = search needs
-
+-- src/lib.rt:201:1
 returns-6 : tie.Need-returns-6
 returns-6 c =
-    read-all-again (c .before .before .before .before .before .before .before .before .before .before .before .args .h .now) (c .before .before .before .before .before .before .before .before .before .before .before .args .b .now) (from-formed (c .before .before .before .before .before .before .before .before .before .before .before .args .h .now) (c .before .before .before .before .before .before .before .before .before .before .before .args .b .now) (sym (c .before .before .before .before .before .before .before .before .formed .ensures) ∙ not-false _ (c .before .before .before .before .before .before .before .if1 .left))) (c .before .before .before .before .before .before .before .before .before .before .before .args .n) (omega arith) (c .before .before .before .before .before .before .before .before .before .before .before .pre (omega arith) (omega arith)) (omega arith)
+    let a = c .before .before .before .before .before .before .before .before .before .before .before .args in
+    read-all-again (a .h .now) (a .b .now) (from-formed (a .h .now) (a .b .now) (sym (c .before .before .before .before .before .before .before .before .formed .ensures) ∙ not-false _ (c .before .before .before .before .before .before .before .if1 .left))) (a .n) (omega arith) (c .before .before .before .before .before .before .before .before .before .before .before .pre (omega arith) (omega arith)) (omega arith)
     (omega (arith, c .before .wide .ensures))
 
 pub read-all-refusal-spec : {M : Type 1} → statement M
@@ -70,18 +76,12 @@ read-all-refusal-spec =
     tie.close
     (tie.spec
     formed-requires
-    cast-result
     returns
     shared-slice-read-flags
-    cast-result-2
     returns-2
-    cast-result-3
     returns-3
-    cast-result-4
     returns-4
     shared-slice-read-wide
     wide-requires
-    cast-result-5
     returns-5
-    cast-result-6
     returns-6)

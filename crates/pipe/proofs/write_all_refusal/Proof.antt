@@ -9,87 +9,77 @@ use Rattle.pipe.proofs.Answers.{write-all-cancelled, write-all-broken, 
 use borrow.Author.Needs.{needs}
 use Rattle.pipe.proofs.write_all_refusal.Statement.{statement}
 use Rattle.pipe.proofs.write_all_refusal.Tie as tie
+use Rattle.pipe.proofs.write_all_refusal.Reads as reads
+use Rattle.pipe.proofs.write_all_refusal.Lts as lts
+use Rattle.pipe.proofs.formed.Reads as formed-reads
+use Rattle.seq.proofs.wide.Reads as wide-reads
 
+-- src/lib.rt:123:9
 formed-requires : tie.Need-formed-requires
 formed-requires c κs = search needs
 
-cast-result : tie.Need-cast-result
-cast-result c = search needs
-
+-- src/lib.rt:124:9
 returns : tie.Need-returns
 returns c =
-    did-bad layout (writeAll (c .before .before .before .before .before .args .src .now)) (c .before .before .before .before .before .args .h .now) (c .before .before .before .before .before .args .b .now) (sym (c .before .formed .ensures) ∙ not-true _ (c .if1 .taken))
+    let a = c .before .before .before .before .before .args in
+    did-bad layout (writeAll (a .src .now)) (a .h .now) (a .b .now) (sym (c .before .formed .ensures) ∙ not-true _ (c .if1 .taken))
 
+-- src/lib.rt:126:17
 shared-slice-read-flags : tie.Need-shared-slice-read-flags
 shared-slice-read-flags c =
-    omega (arith, from-formed (c .before .before .before .before .before .before .args .h .now) (c .before .before .before .before .before .before .args .b .now) (sym (c .before .before .formed .ensures) ∙ not-false _ (c .before .if1 .left)))
+    let a = c .before .before .before .before .before .before .args in omega (arith, (from-formed (a .h .now) (a .b .now) (sym (c .before .before .formed .ensures) ∙ not-false _ (c .before .if1 .left))))
 
-cast-result-2 : tie.Need-cast-result-2
-cast-result-2 c = search needs
-
+-- src/lib.rt:128:9
 returns-2 : tie.Need-returns-2
 returns-2 c =
-    write-all-cancelled (c .before .before .before .before .before .before .before .args .h .now) (c .before .before .before .before .before .before .before .args .b .now)
-    (from-formed (c .before .before .before .before .before .before .before .args .h .now) (c .before .before .before .before .before .before .before .args .b .now) (sym (c .before .before .before .formed .ensures) ∙ not-false _ (c .before .before .if1 .left))) (c .before .before .before .before .before .before .before .args .src .now) (omega arith)
+    let a = c .before .before .before .before .before .before .before .args in
+    write-all-cancelled (a .h .now) (a .b .now) (from-formed (a .h .now) (a .b .now) (sym (c .before .before .before .formed .ensures) ∙ not-false _ (c .before .before .if1 .left))) (a .src .now) (omega arith)
 
-cast-result-3 : tie.Need-cast-result-3
-cast-result-3 c = search needs
-
+-- src/lib.rt:131:9
 returns-3 : tie.Need-returns-3
 returns-3 c =
-    write-all-broken (c .before .before .before .before .before .before .before .before .args .h .now) (c .before .before .before .before .before .before .before .before .args .b .now)
-    (from-formed (c .before .before .before .before .before .before .before .before .args .h .now) (c .before .before .before .before .before .before .before .before .args .b .now) (sym (c .before .before .before .before .formed .ensures) ∙ not-false _ (c .before .before .before .if1 .left))) (c .before .before .before .before .before .before .before .before .args .src .now) (omega arith)
+    let a = c .before .before .before .before .before .before .before .before .args in
+    write-all-broken (a .h .now) (a .b .now) (from-formed (a .h .now) (a .b .now) (sym (c .before .before .before .before .formed .ensures) ∙ not-false _ (c .before .before .before .if1 .left))) (a .src .now) (omega arith)
 
-cast-result-4 : tie.Need-cast-result-4
-cast-result-4 c = search needs
-
+-- src/lib.rt:134:9
 returns-4 : tie.Need-returns-4
 returns-4 c =
-    write-all-nothing (c .before .before .before .before .before .before .before .before .before .args .h .now) (c .before .before .before .before .before .before .before .before .before .args .b .now)
-    (from-formed (c .before .before .before .before .before .before .before .before .before .args .h .now) (c .before .before .before .before .before .before .before .before .before .args .b .now) (sym (c .before .before .before .before .before .formed .ensures) ∙ not-false _ (c .before .before .before .before .if1 .left))) (c .before .before .before .before .before .before .before .before .before .args .src .now) (omega arith) (omega arith)
+    let a = c .before .before .before .before .before .before .before .before .before .args in
+    write-all-nothing (a .h .now) (a .b .now) (from-formed (a .h .now) (a .b .now) (sym (c .before .before .before .before .before .formed .ensures) ∙ not-false _ (c .before .before .before .before .if1 .left))) (a .src .now) (omega arith) (omega arith)
 
+-- src/lib.rt:136:18
 shared-slice-read-wide : tie.Need-shared-slice-read-wide
 shared-slice-read-wide c =
-    omega (arith, from-formed (c .before .before .before .before .before .before .before .before .before .before .args .h .now) (c .before .before .before .before .before .before .before .before .before .before .args .b .now) (sym (c .before .before .before .before .before .before .formed .ensures) ∙ not-false _ (c .before .before .before .before .before .if1 .left)))
+    let a = c .before .before .before .before .before .before .before .before .before .before .args in omega (arith, (from-formed (a .h .now) (a .b .now) (sym (c .before .before .before .before .before .before .formed .ensures) ∙ not-false _ (c .before .before .before .before .before .if1 .left))))
 
+-- src/lib.rt:136:8
 wide-requires : tie.Need-wide-requires
 wide-requires c κs = search needs
 
-cast-result-5 : tie.Need-cast-result-5
-cast-result-5 c = search needs
-
+-- src/lib.rt:137:9
 returns-5 : tie.Need-returns-5
 returns-5 c =
-    write-all-too-long (c .before .before .before .before .before .before .before .before .before .before .before .before .args .h .now) (c .before .before .before .before .before .before .before .before .before .before .before .before .args .b .now)
-    (from-formed (c .before .before .before .before .before .before .before .before .before .before .before .before .args .h .now) (c .before .before .before .before .before .before .before .before .before .before .before .before .args .b .now) (sym (c .before .before .before .before .before .before .before .before .formed .ensures) ∙ not-false _ (c .before .before .before .before .before .before .before .if1 .left))) (c .before .before .before .before .before .before .before .before .before .before .before .before .args .src .now)
-    (omega arith) (omega arith) (omega (arith, c .before .wide .ensures))
+    let a = c .before .before .before .before .before .before .before .before .before .before .before .before .args in
+    write-all-too-long (a .h .now) (a .b .now) (from-formed (a .h .now) (a .b .now) (sym (c .before .before .before .before .before .before .before .before .formed .ensures) ∙ not-false _ (c .before .before .before .before .before .before .before .if1 .left))) (a .src .now) (omega arith) (omega arith) (omega (arith, c .before .wide .ensures))
 
-cast-result-6 : tie.Need-cast-result-6
-cast-result-6 c = search needs
-
+-- src/lib.rt:119:1
 returns-6 : tie.Need-returns-6
 returns-6 c =
-    write-all-again (c .before .before .before .before .before .before .before .before .before .before .before .before .args .h .now) (c .before .before .before .before .before .before .before .before .before .before .before .before .args .b .now)
-    (from-formed (c .before .before .before .before .before .before .before .before .before .before .before .before .args .h .now) (c .before .before .before .before .before .before .before .before .before .before .before .before .args .b .now) (sym (c .before .before .before .before .before .before .before .before .formed .ensures) ∙ not-false _ (c .before .before .before .before .before .before .before .if1 .left))) (c .before .before .before .before .before .before .before .before .before .before .before .before .args .src .now)
-    (omega arith) (omega arith) (omega (arith, c .before .wide .ensures)) (c .before .before .before .before .before .before .before .before .before .before .before .before .pre (omega arith) (omega arith))
+    let a = c .before .before .before .before .before .before .before .before .before .before .before .before .args in
+    write-all-again (a .h .now) (a .b .now) (from-formed (a .h .now) (a .b .now) (sym (c .before .before .before .before .before .before .before .before .formed .ensures) ∙ not-false _ (c .before .before .before .before .before .before .before .if1 .left))) (a .src .now) (omega arith) (omega arith)
+    (omega (arith, c .before .wide .ensures)) (c .before .before .before .before .before .before .before .before .before .before .before .before .pre (omega arith) (omega arith))
 
 pub write-all-refusal-spec : {M : Type 1} → statement M
 write-all-refusal-spec =
     tie.close
     (tie.spec
     formed-requires
-    cast-result
     returns
     shared-slice-read-flags
-    cast-result-2
     returns-2
-    cast-result-3
     returns-3
-    cast-result-4
     returns-4
     shared-slice-read-wide
     wide-requires
-    cast-result-5
     returns-5
-    cast-result-6
     returns-6)
