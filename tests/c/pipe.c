@@ -58,6 +58,35 @@ static int64_t read_answer(uint64_t len, uint32_t used)
 
 static const struct ring ring = {m.pipe.head, write, read, write_answer, read_answer};
 
+/* All or nothing. */
+static int64_t write_all(const uint8_t *src, uint64_t len) { return wq_k_pipe_write_all(&m.pipe, src, len); }
+
+static int64_t read_all(uint8_t *out, uint64_t len) { return wq_k_pipe_read_all(&m.pipe, out, len); }
+
+static int64_t write_all_answer(uint64_t len, uint32_t space)
+{
+    const uint32_t flags = m.pipe.head[FLAGS];
+    return flags >= RESET              ? WQ_ECANCELED
+           : flags == CLOSED           ? WQ_EPIPE
+           : len == 0                  ? WQ_ENOMSG
+           : len > m.pipe.head[SIZE]   ? WQ_EINVAL
+           : len > space               ? WQ_EAGAIN
+                                       : (int64_t)len;
+}
+
+static int64_t read_all_answer(uint64_t len, uint32_t used)
+{
+    const uint32_t flags = m.pipe.head[FLAGS];
+    return flags >= RESET            ? WQ_ECANCELED
+           : len == 0                ? WQ_ENOMSG
+           : len <= used             ? (int64_t)len
+           : flags == CLOSED         ? WQ_EPIPE
+           : len > m.pipe.head[SIZE] ? WQ_EINVAL
+                                     : WQ_EAGAIN;
+}
+
+static const struct ring whole = {m.pipe.head, write_all, read_all, write_all_answer, read_all_answer};
+
 /* The barn logs into the pipe, and the radio sends what is there. A new day drops what was not sent. */
 static void the_log_of_a_barn(void)
 {
@@ -132,6 +161,34 @@ static void lengths_beyond_32_bits(void)
     longer_than_32_bits(&ring);
 }
 
+static void all_or_nothing_in_any_small_pipe(void)
+{
+    made(1);
+    for (uint32_t flags = CLOSED; flags <= ALL; flags++) {
+        m.pipe.head[FLAGS] = flags;
+        every_small_ring(&whole);
+    }
+}
+
+/* Half a frame is worse than none. */
+static void frames_of_a_camera(void)
+{
+    made(8);
+    EQUAL(wq_k_pipe_write_all(&m.pipe, (const uint8_t *)"frame", 5), 5);
+    REFUSED(wq_k_pipe_write_all(&m.pipe, (const uint8_t *)"frame", 5), WQ_EAGAIN);
+    REFUSED(wq_k_pipe_write_all(&m.pipe, (const uint8_t *)"too long!", 9), WQ_EINVAL);
+    EQUAL(wq_k_pipe_write_all(&m.pipe, (const uint8_t *)"end", 3), 3);
+    REFUSED(wq_k_pipe_read_all(&m.pipe, m.got, 9), WQ_EINVAL);
+    EQUAL(wq_k_pipe_read_all(&m.pipe, m.got, 5), 5);
+    CHECK(memcmp(m.got, "frame", 5) == 0);
+    REFUSED(wq_k_pipe_read_all(&m.pipe, m.got, 4), WQ_EAGAIN);
+    EQUAL(wq_k_pipe_close(&m.pipe), WQ_OK);
+    REFUSED(wq_k_pipe_read_all(&m.pipe, m.got, 4), WQ_EPIPE);
+    REFUSED(wq_k_pipe_write_all(&m.pipe, (const uint8_t *)"n", 1), WQ_EPIPE);
+    EQUAL(wq_k_pipe_read_all(&m.pipe, m.got, 3), 3);
+    CHECK(memcmp(m.got, "end", 3) == 0);
+}
+
 /* Sums beyond 32 bits. */
 static void the_greatest_pipe(void)
 {
@@ -180,6 +237,8 @@ static void refused_by_all(void)
     for (uint64_t len = 0; len <= 9; len++) {
         REFUSED(wq_k_pipe_write(&m.pipe, m.src, len), WQ_EINVAL);
         REFUSED(wq_k_pipe_read(&m.pipe, m.got, len), WQ_EINVAL);
+        REFUSED(wq_k_pipe_write_all(&m.pipe, m.src, len), WQ_EINVAL);
+        REFUSED(wq_k_pipe_read_all(&m.pipe, m.got, len), WQ_EINVAL);
     }
     REFUSED(wq_k_pipe_reset(&m.pipe), WQ_EINVAL);
     REFUSED(wq_k_pipe_close(&m.pipe), WQ_EINVAL);
@@ -263,6 +322,36 @@ static void read_decisions(void)
     DECIDES(wq_pipe_read_decide(1, 8, most, 1, false, BOTH), WQ_EINVAL, 0, 0);
 }
 
+/* All or nothing: the ordinary decision where all bytes move or none can; else to wait, or never. */
+static void decisions_on_all_or_nothing(void)
+{
+    UP_TO(used, SMALL) UP_TO(size, SMALL) UP_TO(flags, ALL + 2) UP_TO(len, SMALL + 1) UP_TO(waits, 1)
+    {
+        const int32_t late = len > size ? WQ_EINVAL : WQ_WRITE_PEND;
+        int32_t code = wq_pipe_write_decide(used, size, flags, len, waits, BOTH);
+        uint32_t actual = m.first, new_used = m.second;
+        if (code == WQ_WRITE_PEND || (code >= 0 && actual < len)) {
+            code = late;
+            actual = 0;
+            new_used = used;
+        }
+        DECIDES(wq_pipe_write_all_decide(used, size, flags, len, waits, BOTH), code, actual, new_used);
+        code = wq_pipe_read_decide(used, size, flags, len, waits, BOTH);
+        actual = m.first, new_used = m.second;
+        if (code == WQ_READ_PEND || (code >= 0 && actual < len)) {
+            code = flags == CLOSED ? WQ_EPIPE : late;
+            actual = 0;
+            new_used = used;
+        }
+        DECIDES(wq_pipe_read_all_decide(used, size, flags, len, waits, BOTH), code, actual, new_used);
+    }
+    const uint32_t most = UINT32_MAX;
+    DECIDES(wq_pipe_write_all_decide(1, most, OPEN, most - 1, false, BOTH), WQ_WRITE_OK, most - 1, most);
+    DECIDES(wq_pipe_write_all_decide(2, most, OPEN, most - 1, false, BOTH), WQ_WRITE_PEND, 0, 2);
+    DECIDES(wq_pipe_read_all_decide(most, most, CLOSED, most, true, BOTH), WQ_READ_WAKE_WRITER, most, 0);
+    DECIDES(wq_pipe_read_all_decide(most - 1, most, CLOSED, most, true, BOTH), WQ_EPIPE, 0, 0);
+}
+
 /* Where the pipe says that there is no room or no byte now, the decision is to wait. */
 static int64_t decided(int64_t code) { return code == WQ_WRITE_PEND ? WQ_EAGAIN : code == 0 ? m.first : code; }
 
@@ -279,6 +368,16 @@ static void decide_functions_agree(void)
         code = wq_pipe_read_decide(used, 3, flags, len, false, BOTH);
         with_head(3, 2, used, flags);
         EQUAL(wq_k_pipe_read(&m.pipe, m.got, len), decided(code));
+        if (code >= 0)
+            EQUAL(wq_k_pipe_data_get(&m.pipe), m.second);
+        code = wq_pipe_write_all_decide(used, 3, flags, len, false, BOTH);
+        with_head(3, 2, used, flags);
+        EQUAL(wq_k_pipe_write_all(&m.pipe, m.src, len), decided(code));
+        if (code >= 0)
+            EQUAL(wq_k_pipe_data_get(&m.pipe), m.second);
+        code = wq_pipe_read_all_decide(used, 3, flags, len, false, BOTH);
+        with_head(3, 2, used, flags);
+        EQUAL(wq_k_pipe_read_all(&m.pipe, m.got, len), decided(code));
         if (code >= 0)
             EQUAL(wq_k_pipe_data_get(&m.pipe), m.second);
     }
@@ -338,6 +437,8 @@ static const struct test tests[] = {
     TEST(a_new_pipe_is_open_and_empty),
     TEST(a_size_of_0_or_above_the_buffer_is_refused),
     TEST(any_bytes_into_and_out_of_any_small_pipe),
+    TEST(all_or_nothing_in_any_small_pipe),
+    TEST(frames_of_a_camera),
     TEST(what_goes_in_comes_out_in_that_order),
     TEST(lengths_beyond_32_bits),
     TEST(the_greatest_pipe),
@@ -347,6 +448,7 @@ static const struct test tests[] = {
     TEST(malformed_pipes_are_refused),
     TEST(write_decisions),
     TEST(read_decisions),
+    TEST(decisions_on_all_or_nothing),
     TEST(decide_functions_agree),
     TEST(two_writers_at_a_full_pipe),
     TEST(a_reader_that_waits_while_bytes_are_held),
