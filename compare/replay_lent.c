@@ -276,25 +276,33 @@ static void pipe_init(const long long *in, struct result *r)
 }
 
 /* Gale's pipe has no places; its bytes stand as those of a ring buffer. */
-static void pipe_write(const long long *in, struct result *r)
+static void pipe_writes(int64_t (*write)(struct wq_pipe *, const uint8_t *, uint64_t), uint64_t len, struct result *r)
 {
     uint64_t place = (uint64_t)pipe.head[1] + pipe.head[2];
-    const uint8_t *values = bring_bytes((uint64_t)in[0]);
-    int64_t n = wq_k_pipe_write(&pipe, values, (uint64_t)in[0]);
+    const uint8_t *values = bring_bytes(len);
+    int64_t n = write(&pipe, values, len);
     keep(pipe.head[0], place, values, n);
     answer(r, n);
     pipe_hold(r);
 }
 
-static void pipe_read(const long long *in, struct result *r)
+static void pipe_reads(int64_t (*read)(struct wq_pipe *, uint8_t *, uint64_t), uint64_t len, struct result *r)
 {
     uint64_t place = pipe.head[1];
     uint8_t out[ROOM];
-    int64_t n = wq_k_pipe_read(&pipe, out, (uint64_t)in[0]);
+    int64_t n = read(&pipe, out, len);
     check_out(r, pipe.head[0], place, out, n);
     answer(r, n);
     pipe_hold(r);
 }
+
+static void pipe_write(const long long *in, struct result *r) { pipe_writes(wq_k_pipe_write, (uint64_t)in[0], r); }
+
+static void pipe_write_all(const long long *in, struct result *r) { pipe_writes(wq_k_pipe_write_all, (uint64_t)in[0], r); }
+
+static void pipe_read(const long long *in, struct result *r) { pipe_reads(wq_k_pipe_read, (uint64_t)in[0], r); }
+
+static void pipe_read_all(const long long *in, struct result *r) { pipe_reads(wq_k_pipe_read_all, (uint64_t)in[0], r); }
 
 static void pipe_reset(const long long *in, struct result *r)
 {
@@ -479,7 +487,9 @@ const struct operation lent_operations[] = {
     {"msgq.peek_at_decide", 4, msgq_peek_at_decide},
     {"pipe.init", 1, pipe_init},
     {"pipe.write", 1, pipe_write},
+    {"pipe.write_all", 1, pipe_write_all},
     {"pipe.read", 1, pipe_read},
+    {"pipe.read_all", 1, pipe_read_all},
     {"pipe.reset", 0, pipe_reset},
     {"pipe.close", 0, pipe_close},
     {"pipe.clear_reset", 0, pipe_clear_reset},

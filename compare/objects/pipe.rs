@@ -27,7 +27,9 @@ impl Object<4> for Pipe {
     fn apart(memory: &impl Memory<u8, 4>, call: Call) -> Option<(Kind, Option<i32>)> {
         match call {
             Call::Init(size) => ring_buf::apart(memory.len(), Some(size), 0),
-            Call::Write(len) | Call::Read(len) => ring_buf::apart(memory.len(), None, len),
+            Call::Write(len) | Call::WriteAll(len) | Call::Read(len) | Call::ReadAll(len) => {
+                ring_buf::apart(memory.len(), None, len)
+            }
             _ => None,
         }
     }
@@ -43,11 +45,11 @@ impl Object<4> for Pipe {
                 held.clear();
                 Moved::none()
             }
-            Call::Write(_) => {
+            Call::Write(_) | Call::WriteAll(_) => {
                 held.extend(&step.brought[..count]);
                 Moved::written(around(ring.capacity, ring.tail.into(), &step.brought[..count]))
             }
-            Call::Read(_) => Moved::out(held.drain(..count).collect()),
+            Call::Read(_) | Call::ReadAll(_) => Moved::out(held.drain(..count).collect()),
             Call::Close | Call::ClearReset => Moved::none(),
         })
     }
@@ -55,19 +57,21 @@ impl Object<4> for Pipe {
     fn calls(len: u32) -> Vec<Call> {
         let single = [Call::Init(0), Call::Init(2), Call::Init(len + 1), Call::Reset, Call::Close, Call::ClearReset];
         let many = [0, 1, 2, 4].into_iter().flat_map(|len| [Call::Write(len), Call::Read(len)]);
-        single.into_iter().chain(many).collect()
+        single.into_iter().chain(many).chain([Call::WriteAll(2), Call::ReadAll(2)]).collect()
     }
 
     /// Few calls that leave it closed or resetting, and more that end this.
     fn draw(both: &Both<Self, 4>, rng: &mut Rng) -> Call {
         let size = both.gale.pipe.size;
-        match rng.weighed(&[4, 45, 45, 1, 1, 8]) {
+        match rng.weighed(&[4, 30, 30, 1, 1, 8, 15, 15]) {
             0 => Call::Init(rng.pick(&[0, 1, 2, 3, size, size, size, ROOM as u32, 1 << 31, u32::MAX])),
             1 => Call::Write(draw_len(rng)),
             2 => Call::Read(draw_len(rng)),
             3 => Call::Reset,
             4 => Call::Close,
-            _ => Call::ClearReset,
+            5 => Call::ClearReset,
+            6 => Call::WriteAll(draw_len(rng)),
+            _ => Call::ReadAll(draw_len(rng)),
         }
     }
 }

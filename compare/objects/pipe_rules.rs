@@ -28,13 +28,18 @@ impl Rules<4> for Pipe {
         match call {
             Call::Init(size) if size == 0 || memory.len() < size.into() => refusal(EINVAL),
             Call::Init(size) => becomes([size, 0, 0, 1]),
-            Call::Write(_) | Call::Read(_) if resetting => refusal(ECANCELED),
-            Call::Write(_) if !open => refusal(EPIPE),
-            Call::Write(0) | Call::Read(0) => refusal(ENOMSG),
+            Call::Write(_) | Call::WriteAll(_) | Call::Read(_) | Call::ReadAll(_) if resetting => refusal(ECANCELED),
+            Call::Write(_) | Call::WriteAll(_) if !open => refusal(EPIPE),
+            Call::Write(0) | Call::WriteAll(0) | Call::Read(0) | Call::ReadAll(0) => refusal(ENOMSG),
+            Call::ReadAll(len) if u64::from(used) < len && !open => refusal(EPIPE),
+            Call::WriteAll(len) if u64::from(size) < len => refusal(EINVAL),
+            Call::ReadAll(len) if u64::from(size) < len => refusal(EINVAL),
+            Call::WriteAll(len) if u64::from(size - used) < len => refusal(EAGAIN),
+            Call::ReadAll(len) if u64::from(used) < len => refusal(EAGAIN),
             Call::Write(_) if used == size => refusal(EAGAIN),
             Call::Read(_) if used == 0 => refusal(if open { EAGAIN } else { EPIPE }),
-            Call::Write(_) => puts(memory, brought).into(),
-            Call::Read(room) => takes(memory, room).into(),
+            Call::Write(_) | Call::WriteAll(_) => puts(memory, brought).into(),
+            Call::Read(room) | Call::ReadAll(room) => takes(memory, room).into(),
             Call::Reset => becomes([size, 0, 0, flags | 2]),
             Call::Close => becomes([size, start, used, 0]),
             Call::ClearReset => becomes([size, start, used, flags & 1]),
@@ -48,7 +53,8 @@ impl Rules<4> for Pipe {
 
     fn any_calls(_: [u32; 4], rng: &mut Rng) -> Vec<Call> {
         let (write, read) = (Call::Write(draw_len(rng)), Call::Read(draw_len(rng)));
-        vec![Call::Init(any_number(rng)), write, read, Call::Reset, Call::Close, Call::ClearReset]
+        let (write_all, read_all) = (Call::WriteAll(draw_len(rng)), Call::ReadAll(draw_len(rng)));
+        vec![Call::Init(any_number(rng)), write, read, write_all, read_all, Call::Reset, Call::Close, Call::ClearReset]
     }
 
     /// With each of the flags.
@@ -59,7 +65,8 @@ impl Rules<4> for Pipe {
 
     fn limit_calls([size, _, used, _]: [u32; 4]) -> Vec<Call> {
         let single = [Call::Init(size), Call::Init(u32::MAX), Call::Reset, Call::Close, Call::ClearReset];
-        let writes = few(size - used).into_iter().map(Call::Write);
-        single.into_iter().chain(writes).chain(few(used).into_iter().map(Call::Read)).collect()
+        let writes = few(size - used).into_iter().flat_map(|len| [Call::Write(len), Call::WriteAll(len)]);
+        let reads = few(used).into_iter().flat_map(|len| [Call::Read(len), Call::ReadAll(len)]);
+        single.into_iter().chain(writes).chain(reads).collect()
     }
 }

@@ -8,6 +8,8 @@ use crate::upstream::pipe::Call;
 extern "C" {
     fn wq_pipe_init(head: *mut u32, buf: *const u8, len: u64, size: u32) -> i32;
     fn wq_pipe_write(head: *mut u32, buf: *mut u8, len: u64, src: *const u8, src_len: u64) -> i64;
+    fn wq_pipe_write_all(head: *mut u32, buf: *mut u8, len: u64, src: *const u8, src_len: u64) -> i64;
+    fn wq_pipe_read_all(head: *mut u32, buf: *const u8, len: u64, out: *mut u8, out_len: u64) -> i64;
     fn wq_pipe_read(head: *mut u32, buf: *const u8, len: u64, out: *mut u8, out_len: u64) -> i64;
     fn wq_pipe_reset(head: *mut u32, buf: *const u8, len: u64) -> i32;
     fn wq_pipe_close(head: *mut u32, buf: *const u8, len: u64) -> i32;
@@ -47,7 +49,7 @@ impl Library<4> for Pipe {
 
     fn brings(call: Call) -> u64 {
         match call {
-            Call::Write(len) => len,
+            Call::Write(len) | Call::WriteAll(len) => len,
             _ => 0,
         }
     }
@@ -58,6 +60,13 @@ impl Library<4> for Pipe {
                 Call::Init(size) => plain(wq_pipe_init(head, cells, len, size)),
                 Call::Write(count) => {
                     with_source(brought, count, |src, src_len| wq_pipe_write(head, cells, len, src, src_len))
+                }
+                Call::WriteAll(count) => {
+                    with_source(brought, count, |src, src_len| wq_pipe_write_all(head, cells, len, src, src_len))
+                }
+                Call::ReadAll(room) => {
+                    let written = |code| code as usize;
+                    with_room(room, written, |out, out_len| wq_pipe_read_all(head, cells, len, out, out_len))
                 }
                 Call::Read(room) => {
                     let written = |code| code as usize;

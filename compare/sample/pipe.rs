@@ -9,7 +9,9 @@ impl Tallied for PipeAndRing {
         match call {
             Call::Init(size) => ("pipe.init", vec![size.into()]),
             Call::Write(len) => ("pipe.write", vec![len as i64]),
+            Call::WriteAll(len) => ("pipe.write_all", vec![len as i64]),
             Call::Read(len) => ("pipe.read", vec![len as i64]),
+            Call::ReadAll(len) => ("pipe.read_all", vec![len as i64]),
             Call::Reset => ("pipe.reset", vec![]),
             Call::Close => ("pipe.close", vec![]),
             Call::ClearReset => ("pipe.clear_reset", vec![]),
@@ -20,8 +22,9 @@ impl Tallied for PipeAndRing {
 fn draw(_: &PipeAndRing, rng: &mut Rng) -> Call {
     let len = rng.below(6).into();
     let init = Call::Init(rng.pick(&[0, 2, 7]));
-    let calls = [Call::Write(len), Call::Read(len), Call::Reset, Call::Close, Call::ClearReset, init];
-    calls[rng.weighed(&[18, 16, 1, 1, 4, 2])]
+    let moves = [Call::Write(len), Call::Read(len), Call::WriteAll(len), Call::ReadAll(len)];
+    let calls = [&moves[..], &[Call::Reset, Call::Close, Call::ClearReset, init]].concat();
+    calls[rng.weighed(&[12, 11, 6, 5, 1, 1, 4, 2])]
 }
 
 pub fn tests(rng: &mut Rng) {

@@ -4,7 +4,7 @@
 use super::{counted, remade, ring_buf, slot, Counts};
 use crate::decide::Arg::{Flag, Number, Of};
 use crate::decide::{words, Apart, Arg, Decide, Decision};
-use gale::error::{EINVAL, ENOMSG};
+use gale::error::{EAGAIN, EINVAL, ENOMSG, EPIPE};
 use gale::pipe::{read_decide, write_decide, Pipe, ReadDecision, WriteDecision, FLAG_OPEN, FLAG_RESET};
 use gale::ring_buf::RingBuf;
 
@@ -12,7 +12,9 @@ use gale::ring_buf::RingBuf;
 pub enum Call {
     Init(u32),
     Write(u64),
+    WriteAll(u64),
     Read(u64),
+    ReadAll(u64),
     Reset,
     Close,
     ClearReset,
@@ -30,6 +32,20 @@ impl PipeAndRing {
     }
 }
 
+impl PipeAndRing {
+    /// All bytes or none, which Gale has not: it is asked for the ordinary call, which is done where all bytes move or
+    /// Gale refuses for another reason than that there is no room, or no byte.
+    fn wholly(&mut self, call: Call, len: u64, short: i32) -> i64 {
+        let answer = self.copy().call(call);
+        let never = if len > self.pipe.size().into() { EINVAL } else { EAGAIN };
+        let part = answer >= 0 && answer as u64 != len;
+        if part || answer == EAGAIN.into() {
+            return if short != EAGAIN { short } else { never }.into();
+        }
+        self.call(call)
+    }
+}
+
 impl Counts for PipeAndRing {
     type Call = Call;
 
@@ -40,6 +56,11 @@ impl Counts for PipeAndRing {
                 let moved = self.pipe.write_check(counted(len));
                 assert!(moved.is_err() || moved == Ok(self.ring.put_n(moved.unwrap())));
                 return slot(moved);
+            }
+            Call::WriteAll(len) => return self.wholly(Call::Write(len), len, EAGAIN),
+            Call::ReadAll(len) => {
+                let short = if self.pipe.is_open() { EAGAIN } else { EPIPE };
+                return self.wholly(Call::Read(len), len, short);
             }
             Call::Read(len) => {
                 let moved = self.pipe.read_check(counted(len));

@@ -4,12 +4,14 @@ use mathlib.Core.List.{List}
 use Prim.Native.Nat.{ℕ}
 use lib.IntN.{ℤ}
 use lib.ListN.{drop}
+use Rattle.seq.specs.Part.{Within}
+use Rattle.seq.proofs.Part.{part-below, part-above, whole-stays}
 use Rattle.store.specs.Store as store
 use Rattle.sem.proofs.Border as sem
 use Rattle.mutex.proofs.Border as mutex
 use Rattle.system.proofs.Theorems.{all}
 use Rattle.system.proofs.Library.{code-histories}
-use Rattle.claims.specs.Claims.{Claims}
+use Rattle.claims.specs.Claims.{Apart, Claims}
 use Rattle.claims.proofs.Contracts.{contracts}
 use Rattle.claims.proofs.Objects.{objects}
 
@@ -30,6 +32,11 @@ outside-too {S} P f h b r h' b' d = go (store.reply P f h b) (d .after)
     go (store.refuse c) a = (ap (drop (P .words)) (a .0), ap (drop (P .size h')) (a .1))
     go (store.accept s c) a = (a .beside, a .rest)
 
+-- parts beside one that was lent
+apart : (a n : ℕ) (l l' : List ℕ) → Within a n l l' → Apart a n l l'
+apart a n l l' w =
+    record { below = λ i k h. part-below a n l l' w i k h; above = λ i k h. part-above a n l l' w i k h; whole = λ h. whole-stays a n l l' w h }
+
 pub claims : Claims
 claims =
     record {
@@ -39,6 +46,7 @@ claims =
       outside = λ L f h e r h' e' d. (d .beside, d .rest);
       outside-too = outside-too;
       border = (sem.border, mutex.border);
+      in-part = λ C a n c m h b r h' b' t. (apart a n h h' (t .header), apart c m b b' (t .memory));
       objects = objects;
       laws = all .determined .laws;
       nothing-else = all .determined .next;

@@ -8,6 +8,7 @@ use Rattle.msgq.proofs.Histories as msgq
 use Rattle.msgq.proofs.HandOvers as waiting
 use Rattle.pipe.proofs.Histories as pipe
 use Rattle.pipe.proofs.Fairness as fair
+use Rattle.pipe.proofs.Whole.{all-or-nothing}
 use Rattle.stack.proofs.Traces as stack
 use Rattle.stack.proofs.HandOvers as handed
 use Rattle.mem_slab.proofs.Histories as mem_slab
@@ -40,6 +41,7 @@ objects =
       timeout = timeout.always;
       once = firings.once;
       message-queue-fair = waiting.always-fair;
+      all-or-nothing = λ l n p. all-or-nothing l n p;
       pipe-fair = λ c f b es. fair.always-fair c f b es;
       stack-alike = handed.handed-over;
       slab-handed = given.hand-over;

@@ -1,9 +1,10 @@
 -- A field for each sentence of README.md and docs/THEOREMS.md.
 use mathlib.Core.Path.{_≡_}
 use mathlib.Core.List.{List, _∷_}
-use Prim.Native.Nat.{ℕ, _≤_}
+use Prim.Native.Nat.{ℕ, _+_, _≤_}
 use lib.IntN.{ℤ, negsuc}
 use lib.ListN.{drop, getD}
+use Rattle.seq.specs.Part.{part, At}
 use Rattle.kind.specs.Object as kind
 use Rattle.store.specs.Store as store
 use Rattle.wait_queue.specs.Post.{Refused}
@@ -28,6 +29,12 @@ use Rattle.claims.specs.Objects.{Objects}
 abbrev pub Always : (Run rtos → List (Op rtos) → Type 0) → Type 0
 Always P = (f : Kernel rtos) → Laws members f → (s : Sys rtos) → Start s → (past : List (Op rtos)) → P (run f s) past
 
+-- of l and l', which differ at most in n words from a on: every other part is the same, and if that one is, all is
+pub record Apart (a n : ℕ) (l l' : List ℕ) : Type 0 where
+  pub below : (i k : ℕ) → i + k ≤ a → part i k l' ≡ part i k l
+  pub above : (i k : ℕ) → a + n ≤ i → part i k l' ≡ part i k l
+  pub whole : part a n l' ≡ part a n l → l' ≡ l
+
 pub record Claims : Type 1 where
   -- ---- README.md
   -- 1, 8, 10, 11: a contract fixes the answer and every word
@@ -45,6 +52,9 @@ pub record Claims : Type 1 where
       → (drop (P .words) h' ≡ drop (P .words) h) × (drop (P .size h') b' ≡ drop (P .size h') b)
   -- 20: what give, take, lock and unlock on plain numbers refuse
   pub border : sem.Border × mutex.Border
+  -- 21: a function that is lent parts of a larger header and a larger memory
+  pub in-part : (C : List ℕ → List ℕ → ℤ → List ℕ → List ℕ → Type 0) (a n c m : ℕ) (h b : List ℕ) (r : ℤ) (h' b' : List ℕ) → At C a n c m h b r h' b'
+      → Apart a n h h' × Apart c m b b'
   -- 4 to 6, 9, 12 to 18: objects alone, after any calls
   pub objects : Objects
   -- ---- docs/THEOREMS.md, and 3 and 7 of README.md

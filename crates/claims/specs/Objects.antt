@@ -22,6 +22,8 @@ use Rattle.msgq.specs.History as msgq
 use Rattle.msgq.specs.HandOver as waiting
 use Rattle.pipe.specs.Post as pipes
 use Rattle.pipe.specs.History as pipe
+use Rattle.pipe.specs.Pipe.{Pipe}
+use Rattle.pipe.specs.Whole.{AllOrNothing}
 use Rattle.pipe.specs.Waiting as waiters
 use Rattle.pipe.specs.Fair as fair
 use Rattle.stack.specs.Stack as stacks
@@ -69,6 +71,8 @@ pub record Objects : Type 1 where
   pub once : timeouts.Once
   -- with those that wait
   pub message-queue-fair : (c z : ℕ) (b : List ℕ) (es : List waiting.Event) → 0 < c → waiting.Fair c z (waiting.ends (unwaited (queues.new z c b)) es)
+  -- all or nothing, beside the ordinary write and read
+  pub all-or-nothing : (l : List ℕ) (n : ℕ) (p : Pipe) → AllOrNothing l n p
   pub pipe-fair : (c : ℕ) → 0 < c → (b : List ℕ) (es : List waiters.Event)
       → fair.Fair c (waiters.ends (waiters.waited (pipes.new c b) [] [] false waiters.fresh) es)
   pub stack-alike : (c : ℕ) (w : List ℕ) → stacks.may c w ≡ true → (es : List handed.Event) → handed.Alike (record { stack = stacks.fresh c w; waiting = 0 }) es
