@@ -457,12 +457,6 @@ static inline int64_t wq_k_ring_buf_put_n(struct wq_ring_buf *r, const uint8_t *
 {
     return wq_ring_buf_put_n(r->head, r->buf, r->buf_len, src, src_len);
 }
-/* src_len: all bytes of src went in. Refusals as write, which change nothing; then WQ_EINVAL: src_len is above the pipe's
- * size, so that they never fit; WQ_EAGAIN: they do not fit now. */
-static inline int64_t wq_k_pipe_write_all(struct wq_pipe *p, const uint8_t *src, uint64_t src_len)
-{
-    return wq_pipe_write_all(p->head, p->buf, p->buf_len, src, src_len);
-}
 /* How many bytes came out, into the first of out: the smaller of out_len and what it held. WQ_EINVAL. */
 static inline int64_t wq_k_ring_buf_get_n(struct wq_ring_buf *r, uint8_t *out, uint64_t out_len)
 {
@@ -684,6 +678,12 @@ static inline int32_t wq_k_pipe_init(struct wq_pipe *p, uint8_t *buf, uint64_t b
 static inline int64_t wq_k_pipe_write(struct wq_pipe *p, const uint8_t *src, uint64_t src_len)
 {
     return wq_pipe_write(p->head, p->buf, p->buf_len, src, src_len);
+}
+/* src_len: all bytes of src went in. Refusals as write, which change nothing; then WQ_EINVAL: src_len is above the pipe's
+ * size, so that they never fit; WQ_EAGAIN: they do not fit now. */
+static inline int64_t wq_k_pipe_write_all(struct wq_pipe *p, const uint8_t *src, uint64_t src_len)
+{
+    return wq_pipe_write_all(p->head, p->buf, p->buf_len, src, src_len);
 }
 /* How many bytes came out, into the first of out: the smaller of out_len and what it held. Refusals, in this order:
  * WQ_EINVAL; WQ_ECANCELED: resetting; WQ_ENOMSG: out_len is 0; if empty, WQ_EPIPE: closed, or WQ_EAGAIN: open. */

@@ -11,7 +11,8 @@ use Rattle.sem.proofs.Border as sem
 use Rattle.mutex.proofs.Border as mutex
 use Rattle.system.proofs.Theorems.{all}
 use Rattle.system.proofs.Library.{code-histories}
-use Rattle.claims.specs.Claims.{Apart, Claims}
+use Rattle.claims.specs.Claims.{Claims}
+use Rattle.claims.specs.Parts.{Apart}
 use Rattle.claims.proofs.Contracts.{contracts}
 use Rattle.claims.proofs.Objects.{objects}
 

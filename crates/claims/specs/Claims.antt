@@ -1,10 +1,10 @@
 -- A field for each sentence of README.md and docs/THEOREMS.md.
 use mathlib.Core.Path.{_≡_}
 use mathlib.Core.List.{List, _∷_}
-use Prim.Native.Nat.{ℕ, _+_, _≤_}
+use Prim.Native.Nat.{ℕ, _≤_}
 use lib.IntN.{ℤ, negsuc}
 use lib.ListN.{drop, getD}
-use Rattle.seq.specs.Part.{part, At}
+use Rattle.seq.specs.Part.{At}
 use Rattle.kind.specs.Object as kind
 use Rattle.store.specs.Store as store
 use Rattle.wait_queue.specs.Post.{Refused}
@@ -24,16 +24,11 @@ use Rattle.system.specs.History.{Histories}
 use Rattle.system.specs.Library.{stock, library}
 use Rattle.claims.specs.Contracts.{Contracts}
 use Rattle.claims.specs.Objects.{Objects}
+use Rattle.claims.specs.Parts.{Apart}
 
 -- of every kernel that keeps the laws, from every start, after every history
 abbrev pub Always : (Run rtos → List (Op rtos) → Type 0) → Type 0
 Always P = (f : Kernel rtos) → Laws members f → (s : Sys rtos) → Start s → (past : List (Op rtos)) → P (run f s) past
-
--- of l and l', which differ at most in n words from a on: every other part is the same, and if that one is, all is
-pub record Apart (a n : ℕ) (l l' : List ℕ) : Type 0 where
-  pub below : (i k : ℕ) → i + k ≤ a → part i k l' ≡ part i k l
-  pub above : (i k : ℕ) → a + n ≤ i → part i k l' ≡ part i k l
-  pub whole : part a n l' ≡ part a n l → l' ≡ l
 
 pub record Claims : Type 1 where
   -- ---- README.md

@@ -1,3 +1,4 @@
 pub mod Contracts
 pub mod Objects
+pub mod Parts
 pub mod Claims
