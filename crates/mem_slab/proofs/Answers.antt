@@ -10,12 +10,13 @@ use lib.IntN.{pos}
 use lib.ListN.{getD, take, set, length-set}
 use lib.Seq.{getD-take, take-set-lt, drop-set-lt}
 use borrow.Author.Tests.{lt-ltb, le-ltb, le-leb, lt-leb, ltb-true, eq-eqb, ne-eqb}
+use Rattle.seq.proofs.Words.{by-words}
 use Rattle.thread.specs.Code.{ok, enomem, einval}
 use Rattle.store.specs.Store.{Becomes}
 use Rattle.store.proofs.Laws.{decides, declines, did-no, did-yes}
 use Rattle.mem_slab.specs.Slab.{Slab, isOut, waits, woke, leads, alloc, free}
 use Rattle.mem_slab.specs.Post.{slab, place, fit, led, isFull, isEmpty, Allocs, Frees, AllocDecided, FreeDecided}
-use Rattle.mem_slab.proofs.Memory.{both, Sound, sound-is, Fit, fit-is, is-fit, leads-is, next-link, unfit, Four, four}
+use Rattle.mem_slab.proofs.Memory.{both, Sound, sound-is, Fit, fit-is, is-fit, leads-is, next-link, unfit}
 
 -- on plain numbers
 module _ (u n m : ℕ) where
@@ -77,11 +78,12 @@ module _ (h l : List ℕ) (f : Fit h l) where
 
   pub writes : (u' x' i v : ℕ) → u' ≤ getD h 0 0 → x' < getD h 0 0 → i < getD h 0 0
       → Becomes place (record { blocks = getD h 0 0; size = getD h 1 0; used = u'; next = x'; link = set (take (getD h 0 0) l) i v }) h l (set (set h 2 u') 3 x') (set l i v)
-  writes = go (four h (f .sound .words))
-    where
-      go : Four h → (u' x' i v : ℕ) → u' ≤ getD h 0 0 → x' < getD h 0 0 → i < getD h 0 0
-          → Becomes place (record { blocks = getD h 0 0; size = getD h 1 0; used = u'; next = x'; link = set (take (getD h 0 0) l) i v }) h l (set (set h 2 u') 3 x') (set l i v)
-      go g = rw (g .is) (stored (g .blocks) (g .size) (g .used) (g .next) (g .rest) l (rw (g .is) at (f .sound)))
+  writes =
+      by-words 4
+      (λ h. Sound h l → (u' x' i v : ℕ) → u' ≤ getD h 0 0 → x' < getD h 0 0 → i < getD h 0 0
+      → Becomes place (record { blocks = getD h 0 0; size = getD h 1 0; used = u'; next = x'; link = set (take (getD h 0 0) l) i v }) h l (set (set h 2 u') 3 x')
+      (set l i v))
+      (λ a z u x t s. stored a z u x t l s) h (f .sound .words) (f .sound)
 
   -- alloc
   pub all-out : used ≡ blocks → Allocs h l enomem h l

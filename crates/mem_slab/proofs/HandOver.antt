@@ -9,22 +9,20 @@ use lib.IntN.{pos}
 use lib.ListN.{length, getD, take, drop, set, take-append-drop}
 use lib.Seq.{set-set, set-getD, getD-set-same, length-take-le}
 use borrow.Author.Tests.{lt-ltb, le-leb, ltb-true, ltb-false, ne-eqb, eqb-true}
+use Rattle.seq.proofs.Only.{alike-only, back-alike}
 use Rattle.thread.specs.Code.{ok}
 use Rattle.store.specs.Store.{accept, answer, After, Becomes}
 use Rattle.store.proofs.Laws.{no-code, became, answers}
 use Rattle.mem_slab.specs.Slab.{Slab, isOut, alloc, returned}
 use Rattle.mem_slab.specs.Post.{slab, place, led}
 use Rattle.mem_slab.specs.HandOver.{HandedOver, HandOver, Counts, Ask, allocates, releases, next, after, NoneInVain}
-use Rattle.mem_slab.proofs.Memory.{both, Fit, Four, four}
+use Rattle.mem_slab.proofs.Memory.{both, Fit}
 use Rattle.mem_slab.proofs.Outs.{free-cases}
 
 -- memory that holds the same slab and, beside it, the same words is the same
 module _ (h l h' l' : List ℕ) (e : slab h' l' ≡ slab h l) where
   pub same-header : 4 ≤ length h → length h' ≡ length h → drop 4 h' ≡ drop 4 h → h' ≡ h
-  same-header w m d = go (four h w) (four h' (omega arith)) (ap (λ (s : Slab). s .blocks) e) (ap (λ (s : Slab). s .size) e) (ap (λ (s : Slab). s .used) e) (ap (λ (s : Slab). s .next) e) d
-    where
-      go : Four h → Four h' → getD h' 0 0 ≡ getD h 0 0 → getD h' 1 0 ≡ getD h 1 0 → getD h' 2 0 ≡ getD h 2 0 → getD h' 3 0 ≡ getD h 3 0 → drop 4 h' ≡ drop 4 h → h' ≡ h
-      go f g = rw (f .is, g .is) (λ p q r s t. cc)
+  same-header w m d = alike-only 4 h' h m (back-alike 4 h' h (λ i. e i .next ∷ e i .used ∷ e i .size ∷ e i .blocks ∷ [])) d
 
   pub same-links : drop (getD h 0 0) l' ≡ drop (getD h 0 0) l → l' ≡ l
   same-links d =

@@ -1,7 +1,7 @@
 -- A slab in memory: what its being fit says, and what a call leaves. Assumes nothing.
 use mathlib.Core.Path.{_≡_, refl, sym, ap, subst, _∙_}
 use mathlib.Core.Bool.{Bool, true, false, cond, not, _&&_}
-use mathlib.Core.List.{List, [], _∷_}
+use mathlib.Core.List.{List}
 use Prim.Native.Nat.{ℕ, _≤_, _<_}
 use native.Mathlib.Omega.{arith}
 use lib.Dec.{ltb, leb}
@@ -144,19 +144,3 @@ module _ (h l : List ℕ) where
 
   pub unseen : (f : Slab → ℤ) → fit h l ≡ false → einval ≡ sees f h l
   unseen f k = sym (unguarded (f (slab h l)) einval k)
-
--- a header shows its four words
-pub record Four (h : List ℕ) : Type 0 where
-  pub blocks : ℕ
-  pub size : ℕ
-  pub used : ℕ
-  pub next : ℕ
-  pub rest : List ℕ
-  pub is : h ≡ blocks ∷ size ∷ used ∷ next ∷ rest
-
-pub four : (h : List ℕ) → 4 ≤ length h → Four h
-four [] k = absurd (omega arith)
-four (a ∷ []) k = absurd (omega arith)
-four (a ∷ b ∷ []) k = absurd (omega arith)
-four (a ∷ b ∷ c ∷ []) k = absurd (omega arith)
-four (a ∷ b ∷ c ∷ d ∷ t) k = record { blocks = a; size = b; used = c; next = d; rest = t; is = refl }

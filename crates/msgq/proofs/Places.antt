@@ -1,11 +1,12 @@
 -- The words that a call leaves, and what they are then. Assumes nothing.
 use mathlib.Core.Path.{_≡_, refl, ap, _∙_}
 use mathlib.Core.Bool.{true, false}
-use mathlib.Core.List.{List, [], _∷_}
+use mathlib.Core.List.{List}
 use Prim.Native.Nat.{ℕ, _*_, _≤_, _<_}
 use native.Mathlib.Omega.{arith}
 use borrow.Author.Tests.{lt-ltb, le-ltb}
 use lib.ListN.{length, drop, getD, set}
+use Rattle.seq.proofs.Words.{by-words}
 use Rattle.thread.specs.Code.{ok, einval}
 use Rattle.store.specs.Store.{Becomes}
 use Rattle.store.proofs.Laws.{start-short, start-bad, start-made}
@@ -23,29 +24,21 @@ pub record Words (h h' : List ℕ) (c t n z : ℕ) : Type 0 where
   pub beside : drop 4 h' ≡ drop 4 h
   pub long : length h' ≡ length h
 
--- what holds of every header of four words and more
-by-four : (P : List ℕ → Type 0) (h : List ℕ) → 4 ≤ length h → ((c t n z : ℕ) (rest : List ℕ) → P (c ∷ t ∷ n ∷ z ∷ rest)) → P h
-by-four P [] k f = absurd (omega arith)
-by-four P (c ∷ []) k f = absurd (omega arith)
-by-four P (c ∷ t ∷ []) k f = absurd (omega arith)
-by-four P (c ∷ t ∷ n ∷ []) k f = absurd (omega arith)
-by-four P (c ∷ t ∷ n ∷ z ∷ rest) k f = f c t n z rest
-
 module _ (h : List ℕ) (k : 4 ≤ length h) where
   pub set-all : (c z : ℕ) → Words h (set (set (set (set h 0 c) 1 0) 2 0) 3 z) c 0 0 z
   set-all c z =
-      by-four (λ (x : List ℕ). Words x (set (set (set (set x 0 c) 1 0) 2 0) 3 z) c 0 0 z) h k
-      (λ c' t n z' rest. record { max = refl; start = refl; used = refl; size = refl; beside = refl; long = refl })
+      by-words 4 (λ (x : List ℕ). Words x (set (set (set (set x 0 c) 1 0) 2 0) 3 z) c 0 0 z)
+      (λ c' t n z' rest. record { max = refl; start = refl; used = refl; size = refl; beside = refl; long = refl }) h k
 
   pub set-used : (n' : ℕ) → Words h (set h 2 n') (getD h 0 0) (getD h 1 0) n' (getD h 3 0)
   set-used n' =
-      by-four (λ (x : List ℕ). Words x (set x 2 n') (getD x 0 0) (getD x 1 0) n' (getD x 3 0)) h k
-      (λ c t n z rest. record { max = refl; start = refl; used = refl; size = refl; beside = refl; long = refl })
+      by-words 4 (λ (x : List ℕ). Words x (set x 2 n') (getD x 0 0) (getD x 1 0) n' (getD x 3 0))
+      (λ c t n z rest. record { max = refl; start = refl; used = refl; size = refl; beside = refl; long = refl }) h k
 
   pub set-both : (t' n' : ℕ) → Words h (set (set h 1 t') 2 n') (getD h 0 0) t' n' (getD h 3 0)
   set-both t' n' =
-      by-four (λ (x : List ℕ). Words x (set (set x 1 t') 2 n') (getD x 0 0) t' n' (getD x 3 0)) h k
-      (λ c t n z rest. record { max = refl; start = refl; used = refl; size = refl; beside = refl; long = refl })
+      by-words 4 (λ (x : List ℕ). Words x (set (set x 1 t') 2 n') (getD x 0 0) t' n' (getD x 3 0))
+      (λ c t n z rest. record { max = refl; start = refl; used = refl; size = refl; beside = refl; long = refl }) h k
 
 -- a new header and buffer
 pub becomes : (h b h' b' : List ℕ) (c t n z : ℕ) {r : Ring (List ℕ)} → 4 ≤ length h → Words h h' c t n z → t < c → n ≤ c → Room z c b → length b' ≡ length b

@@ -1,7 +1,7 @@
 -- A pipe's header: what is tested, and what a change of its ring or of its flags makes of it. Assumes nothing.
 use mathlib.Core.Path.{_≡_, refl, sym, ap, subst, _∙_}
 use mathlib.Core.Bool.{Bool, true, false}
-use mathlib.Core.List.{List, [], _∷_}
+use mathlib.Core.List.{List, _∷_}
 use Prim.Native.Nat.{ℕ, _≤_, _<_}
 use native.Mathlib.Omega.{arith}
 use borrow.Author.Tests.{lt-leb, le-leb, leb-true}
@@ -9,6 +9,7 @@ use lib.Dec.{leb}
 use lib.IntN.{ℤ}
 use lib.ListN.{length, drop, getD, set}
 use lib.Seq.{getD-drop, drop-drop}
+use Rattle.seq.proofs.Words.{by-words}
 use Rattle.store.specs.Store.{Reply, refuse, accept, answer, carry, reply, Becomes, After, Did}
 use Rattle.store.proofs.Laws.{both-true}
 use Rattle.ring_buf.specs.Ring.{Ring}
@@ -66,18 +67,15 @@ module _ (h b h' b' : List ℕ) (r : Ring ℕ) (w : 4 ≤ length h) (m : Becomes
 -- and the flags are f
 pub new-flags : (h b h' b' : List ℕ) (r : Ring ℕ) (f : ℕ) → 4 ≤ length h → Becomes bytes r h b h' b' → f ≤ 3
     → Becomes layout (record { opened = isOpen f; resetting = isResetting f; ring = r }) h b (set h' 3 f) b'
-new-flags h b [] b' r f w m k = absurd (omega (arith, m .long .0))
-new-flags h b (x ∷ []) b' r f w m k = absurd (omega (arith, m .long .0))
-new-flags h b (x ∷ y ∷ []) b' r f w m k = absurd (omega (arith, m .long .0))
-new-flags h b (x ∷ y ∷ z ∷ []) b' r f w m k = absurd (omega (arith, m .long .0))
-new-flags h b (x ∷ y ∷ z ∷ q ∷ rest) b' r f w m k =
-    record {
+new-flags h b h' b' r f w m k =
+    by-words 4 (λ h'. Becomes bytes r h b h' b' → Becomes layout (record { opened = isOpen f; resetting = isResetting f; ring = r }) h b (set h' 3 f) b')
+    (λ x y z q rest m. record {
       formed = is-ring (x ∷ y ∷ z ∷ f ∷ rest) b' (omega arith) k ∙ m .formed;
       object = λ i. record { opened = isOpen f; resetting = isResetting f; ring = m .object i };
       beside = behind h b (x ∷ y ∷ z ∷ q ∷ rest) b' r w m;
       rest = m .rest;
       long = m .long;
-    }
+    }) h' (omega (arith, m .long .0)) m
 
 -- what the ring's function g did is what f is to do to the pipe
 module _ (h b : List ℕ) (w : 4 ≤ length h) (v : getD h 3 0 ≤ 3) (f : Pipe → Reply Pipe) (g : Ring ℕ → Reply (Ring ℕ)) where

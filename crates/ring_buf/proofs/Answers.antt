@@ -8,6 +8,7 @@ use borrow.Author.Tests.{lt-ltb, le-ltb, lt-leb, le-leb}
 use lib.IntN.{pos}
 use lib.ListN.{length, take, drop, getD, set, drop-of-length-le}
 use lib.Seq.{paste}
+use Rattle.seq.proofs.Words.{by-words}
 use Rattle.thread.specs.Code.{ok, eagain, einval}
 use Rattle.store.specs.Store.{answer, Becomes, Did, looks, handed, Filled}
 use Rattle.store.proofs.Laws.{any-some, any-none, looks-is, handed-is, start-short, start-bad, start-made}
@@ -128,13 +129,10 @@ module _ (h b : List ℕ) (c : ℕ) where
   no-buffer k f g = start-bad k (rw (lt-ltb 0 c f, lt-leb c (length b) g))
 
   pub made : 3 ≤ length h → 0 < c → c ≤ length b → Starts c h b ok (set (set (set h 0 c) 1 0) 2 0)
-  made k f g = start-made k (rw (lt-ltb 0 c f, le-leb c (length b) g)) (go h k)
+  made k f g = start-made k (rw (lt-ltb 0 c f, le-leb c (length b) g)) (by-words 3 (λ h. Becomes bytes (new c b) h b (set (set (set h 0 c) 1 0) 2 0) b) go h k)
     where
-      go : (h : List ℕ) → 3 ≤ length h → Becomes bytes (new c b) h b (set (set (set h 0 c) 1 0) 2 0) b
-      go [] k = absurd (omega arith)
-      go (x ∷ []) k = absurd (omega arith)
-      go (x ∷ y ∷ []) k = absurd (omega arith)
-      go (x ∷ y ∷ z ∷ rest) k =
+      go : (x y z : ℕ) (rest : List ℕ) → Becomes bytes (new c b) (x ∷ y ∷ z ∷ rest) b (c ∷ 0 ∷ 0 ∷ rest) b
+      go x y z rest =
           record {
             formed = is-sound (c ∷ 0 ∷ 0 ∷ rest) b (record { words = omega arith; start = f; size = omega arith; room = g });
             object = refl;

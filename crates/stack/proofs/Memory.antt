@@ -1,13 +1,14 @@
 -- A stack in memory: when it is as it should be, and what a store to the header or to the words makes of it. Assumes nothing.
 use mathlib.Core.Path.{_≡_, refl, sym}
 use mathlib.Core.Bool.{Bool, true, false, cond}
-use mathlib.Core.List.{List, [], _∷_, _++_}
+use mathlib.Core.List.{List, _∷_, _++_}
 use Prim.Native.Nat.{ℕ, suc, _-_, _≤_, _<_}
 use native.Mathlib.Omega.{arith}
 use lib.Dec.{ltb, leb}
 use lib.ListN.{length, getD, set, take, drop}
 use lib.Seq.{drop-cons, set-getD, getD-set-same, drop-set-lt}
 use borrow.Author.Tests.{ltb-true, leb-true, lt-ltb, le-leb}
+use Rattle.seq.proofs.Words.{by-words}
 use Rattle.seq.proofs.Order.{clash}
 use Rattle.seq.proofs.Back.{back-set}
 use Rattle.store.specs.Store.{Becomes}
@@ -56,16 +57,15 @@ may-is c w = go (ltb 0 c) (leb c (length w)) refl refl
 -- a header with this capacity and this count, over words that are the same from the capacity on
 pub becomes : (h w w' : List ℕ) (c n : ℕ) → 2 ≤ length h → 0 < c → n ≤ c → c ≤ length w → length w' ≡ length w → drop c w' ≡ drop c w
     → Becomes place (stackOf c n w') h w (set (set h 0 c) 1 n) w'
-becomes [] w w' c n k a b e l d = absurd (omega arith)
-becomes (x ∷ []) w w' c n k a b e l d = absurd (omega arith)
-becomes (x ∷ y ∷ t) w w' c n k a b e l d =
-    record {
+becomes h w w' c n k a b e l d =
+    by-words 2 (λ h. Becomes place (stackOf c n w') h w (set (set h 0 c) 1 n) w')
+    (λ x y t. record {
       formed = formed (c ∷ n ∷ t) w' (record { words = omega arith; some-room = a; within = b; housed = omega arith });
       object = refl;
       beside = refl;
       rest = d;
       long = (refl, l);
-    }
+    }) h k
 
 -- the capacity stays
 pub counts : (h w w' : List ℕ) (n : ℕ) → Sound h w → n ≤ getD h 0 0 → length w' ≡ length w → drop (getD h 0 0) w' ≡ drop (getD h 0 0) w

@@ -86,10 +86,3 @@ module _ {S K : Type 0} (P : Place S) (does : K → S → Reply S) (I : List (Ev
       let q = done P (does k) h b (p .0) d in
       let a = answers P (does k) h b d (p .0) in
       (q .0, subst (λ (s : S). I (record { call = k; answer = r } ∷ es) s) (sym (q .1)) (subst (λ (z : ℤ). I (record { call = k; answer = z } ∷ es) (left (does k (P .object h b)) (P .object h b))) (sym a) (keeps k es (P .object h b) (p .1))))
-
--- a header of three words
-pub three : (P : List ℕ → Type 0) → ((x y z : ℕ) (t : List ℕ) → 3 ≤ length (x ∷ y ∷ z ∷ t) → P (x ∷ y ∷ z ∷ t)) → (h : List ℕ) → 3 ≤ length h → P h
-three P f [] k = absurd (omega arith)
-three P f (x ∷ []) k = absurd (omega arith)
-three P f (x ∷ y ∷ []) k = absurd (omega arith)
-three P f (x ∷ y ∷ z ∷ t) k = f x y z t k

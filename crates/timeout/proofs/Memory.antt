@@ -8,9 +8,9 @@ use native.Mathlib.Omega.{arith}
 use lib.Dec.{eqb, ltb, leb}
 use lib.ListN.{length, getD, set}
 use borrow.Author.Tests.{ltb-true, leb-true, eqb-true, lt-ltb, le-ltb, le-leb, lt-leb}
+use Rattle.seq.proofs.Words.{by-words}
 use Rattle.store.specs.Store.{Becomes}
 use Rattle.store.proofs.Laws.{both-true}
-use Rattle.store.proofs.Histories.{three}
 use Rattle.timeout.specs.Timeout.{timeout, never, right}
 use Rattle.timeout.specs.Post.{place}
 use Rattle.timeout.proofs.Numbers.{right-idle, right-ahead}
@@ -63,24 +63,24 @@ stands x y z d a c t k e =
 -- what stores to words of the header make of it
 module _ (h : List ℕ) (k : 3 ≤ length h) where
   pub wrote-all : (d a c : ℕ) → right (ltb 0 a) d c ≡ true → Becomes place (timeout d a c) h [] (set (set (set h 0 d) 1 a) 2 c) []
-  wrote-all d a c e = three (λ h. Becomes place (timeout d a c) h [] (set (set (set h 0 d) 1 a) 2 c) []) (λ x y z t j. stands x y z d a c t j e) h k
+  wrote-all d a c e = by-words 3 (λ h. Becomes place (timeout d a c) h [] (set (set (set h 0 d) 1 a) 2 c) []) (λ x y z t. let j : 3 ≤ length (x ∷ y ∷ z ∷ t) = omega arith in stands x y z d a c t j e) h k
 
   pub wrote-due : (d a : ℕ) → right (ltb 0 a) d (getD h 2 0) ≡ true → Becomes place (timeout d a (getD h 2 0)) h [] (set (set h 0 d) 1 a) []
   wrote-due d a e =
-      three (λ h. right (ltb 0 a) d (getD h 2 0) ≡ true → Becomes place (timeout d a (getD h 2 0)) h [] (set (set h 0 d) 1 a) [])
-      (λ x y z t j e. stands x y z d a z t j e) h k e
+      by-words 3 (λ h. right (ltb 0 a) d (getD h 2 0) ≡ true → Becomes place (timeout d a (getD h 2 0)) h [] (set (set h 0 d) 1 a) [])
+      (λ x y z t e. let j : 3 ≤ length (x ∷ y ∷ z ∷ t) = omega arith in stands x y z d a z t j e) h k e
 
   pub wrote-active : (a : ℕ) → right (ltb 0 a) (getD h 0 0) (getD h 2 0) ≡ true → Becomes place (timeout (getD h 0 0) a (getD h 2 0)) h [] (set h 1 a) []
   wrote-active a e =
-      three (λ h. right (ltb 0 a) (getD h 0 0) (getD h 2 0) ≡ true → Becomes place (timeout (getD h 0 0) a (getD h 2 0)) h [] (set h 1 a) [])
-      (λ x y z t j e. stands x y z x a z t j e) h k e
+      by-words 3 (λ h. right (ltb 0 a) (getD h 0 0) (getD h 2 0) ≡ true → Becomes place (timeout (getD h 0 0) a (getD h 2 0)) h [] (set h 1 a) [])
+      (λ x y z t e. let j : 3 ≤ length (x ∷ y ∷ z ∷ t) = omega arith in stands x y z x a z t j e) h k e
 
   pub wrote-clock : (c : ℕ) → right (ltb 0 (getD h 1 0)) (getD h 0 0) c ≡ true → Becomes place (timeout (getD h 0 0) (getD h 1 0) c) h [] (set h 2 c) []
   wrote-clock c e =
-      three (λ h. right (ltb 0 (getD h 1 0)) (getD h 0 0) c ≡ true → Becomes place (timeout (getD h 0 0) (getD h 1 0) c) h [] (set h 2 c) [])
-      (λ x y z t j e. stands x y z x y c t j e) h k e
+      by-words 3 (λ h. right (ltb 0 (getD h 1 0)) (getD h 0 0) c ≡ true → Becomes place (timeout (getD h 0 0) (getD h 1 0) c) h [] (set h 2 c) [])
+      (λ x y z t e. let j : 3 ≤ length (x ∷ y ∷ z ∷ t) = omega arith in stands x y z x y c t j e) h k e
 
   pub wrote-both : (a c : ℕ) → right (ltb 0 a) (getD h 0 0) c ≡ true → Becomes place (timeout (getD h 0 0) a c) h [] (set (set h 2 c) 1 a) []
   wrote-both a c e =
-      three (λ h. right (ltb 0 a) (getD h 0 0) c ≡ true → Becomes place (timeout (getD h 0 0) a c) h [] (set (set h 2 c) 1 a) [])
-      (λ x y z t j e. stands x y z x a c t j e) h k e
+      by-words 3 (λ h. right (ltb 0 a) (getD h 0 0) c ≡ true → Becomes place (timeout (getD h 0 0) a c) h [] (set (set h 2 c) 1 a) [])
+      (λ x y z t e. let j : 3 ≤ length (x ∷ y ∷ z ∷ t) = omega arith in stands x y z x a c t j e) h k e

@@ -5,10 +5,11 @@ use Prim.Native.Nat.{ℕ, suc, _≤_, _<_}
 use lib.IntN.{ℤ, pos}
 use lib.ListN.{length, getD, set}
 use borrow.Author.Tests.{lt-ltb, le-leb, lt-leb, eq-eqb, ne-eqb}
+use native.Mathlib.Omega.{arith}
+use Rattle.seq.proofs.Words.{by-words}
 use Rattle.thread.specs.Code.{ok, eoverflow, einval}
 use Rattle.store.specs.Store.{Reply, refuse, accept, Becomes, Did, looks}
 use Rattle.store.proofs.Laws.{did-bad, did-no, did-yes, start-short, start-made}
-use Rattle.store.proofs.Histories.{three}
 use Rattle.timer.specs.Timer.{Timer, timer, most, unlessZero, expireDecide, start, stop, expire, statusGet}
 use Rattle.timer.specs.Post.{Starts, StartsRunning, Stops, Expires, GetsStatus, place}
 
@@ -50,21 +51,21 @@ module _ (h : List ℕ) where
     seen f = rw (le-leb 3 (length h) k)
 
     pub init-made : (p : ℕ) → Starts p h ok (set (set (set h 0 0) 1 p) 2 0)
-    init-made p = three (λ h. Starts p h ok (set (set (set h 0 0) 1 p) 2 0)) (λ s q x t j. start-made j refl (becomes s q x 0 p 0 t j)) h k
+    init-made p = by-words 3 (λ h. Starts p h ok (set (set (set h 0 0) 1 p) 2 0)) (λ s q x t. let j : 3 ≤ length (s ∷ q ∷ x ∷ t) = omega arith in start-made j refl (becomes s q x 0 p 0 t j)) h k
 
     pub started : StartsRunning h ok (set (set h 0 0) 2 1)
-    started = three (λ h. StartsRunning h ok (set (set h 0 0) 2 1)) (λ s p x t j. did-yes place start (s ∷ p ∷ x ∷ t) [] (le-leb 3 (length (s ∷ p ∷ x ∷ t)) j) refl (becomes s p x 0 p 1 t j)) h k
+    started = by-words 3 (λ h. StartsRunning h ok (set (set h 0 0) 2 1)) (λ s p x t. let j : 3 ≤ length (s ∷ p ∷ x ∷ t) = omega arith in did-yes place start (s ∷ p ∷ x ∷ t) [] (le-leb 3 (length (s ∷ p ∷ x ∷ t)) j) refl (becomes s p x 0 p 1 t j)) h k
 
     pub stopped : Stops h ok (set (set h 0 0) 2 0)
-    stopped = three (λ h. Stops h ok (set (set h 0 0) 2 0)) (λ s p x t j. did-yes place stop (s ∷ p ∷ x ∷ t) [] (le-leb 3 (length (s ∷ p ∷ x ∷ t)) j) refl (becomes s p x 0 p 0 t j)) h k
+    stopped = by-words 3 (λ h. Stops h ok (set (set h 0 0) 2 0)) (λ s p x t. let j : 3 ≤ length (s ∷ p ∷ x ∷ t) = omega arith in did-yes place stop (s ∷ p ∷ x ∷ t) [] (le-leb 3 (length (s ∷ p ∷ x ∷ t)) j) refl (becomes s p x 0 p 0 t j)) h k
 
     pub was-read : GetsStatus h (pos (getD h 0 0)) (set h 0 0)
-    was-read = three (λ h. GetsStatus h (pos (getD h 0 0)) (set h 0 0)) (λ s p x t j. did-yes place statusGet (s ∷ p ∷ x ∷ t) [] (le-leb 3 (length (s ∷ p ∷ x ∷ t)) j) refl (becomes s p x 0 p x t j)) h k
+    was-read = by-words 3 (λ h. GetsStatus h (pos (getD h 0 0)) (set h 0 0)) (λ s p x t. let j : 3 ≤ length (s ∷ p ∷ x ∷ t) = omega arith in did-yes place statusGet (s ∷ p ∷ x ∷ t) [] (le-leb 3 (length (s ∷ p ∷ x ∷ t)) j) refl (becomes s p x 0 p x t j)) h k
 
     pub expire-most : getD h 0 0 ≡ most → Expires h eoverflow h
     expire-most e = did-no place expire h [] (le-leb 3 (length h) k) (rw e)
 
     pub expired : getD h 0 0 < most → Expires h (pos (suc (getD h 0 0))) (set h 0 (suc (getD h 0 0)))
     expired b =
-        three (λ h. getD h 0 0 < most → Expires h (pos (suc (getD h 0 0))) (set h 0 (suc (getD h 0 0))))
-        (λ s p x t j b. did-yes place expire (s ∷ p ∷ x ∷ t) [] (le-leb 3 (length (s ∷ p ∷ x ∷ t)) j) (rw (lt-ltb s most b)) (becomes s p x (suc s) p x t j)) h k b
+        by-words 3 (λ h. getD h 0 0 < most → Expires h (pos (suc (getD h 0 0))) (set h 0 (suc (getD h 0 0))))
+        (λ s p x t b. let j : 3 ≤ length (s ∷ p ∷ x ∷ t) = omega arith in did-yes place expire (s ∷ p ∷ x ∷ t) [] (le-leb 3 (length (s ∷ p ∷ x ∷ t)) j) (rw (lt-ltb s most b)) (becomes s p x (suc s) p x t j)) h k b
