@@ -1,18 +1,18 @@
 -- Every claim holds. Assumes nothing.
 use mathlib.Core.Path.{_≡_, subst, ap, _∙_}
 use mathlib.Core.List.{List}
-use Prim.Native.Nat.{ℕ}
+use Prim.Native.Nat.{ℕ, _+_, _≤_}
 use lib.IntN.{ℤ}
-use lib.ListN.{drop}
-use Rattle.seq.specs.Part.{Within}
-use Rattle.seq.proofs.Part.{part-below, part-above, whole-stays}
+use lib.ListN.{length, drop}
+use Rattle.seq.specs.Part.{part, Within, At}
+use Rattle.seq.proofs.Part.{part-put, within-put, part-below, part-above, whole-stays}
 use Rattle.store.specs.Store as store
 use Rattle.sem.proofs.Border as sem
 use Rattle.mutex.proofs.Border as mutex
 use Rattle.system.proofs.Theorems.{all}
 use Rattle.system.proofs.Library.{code-histories}
 use Rattle.claims.specs.Claims.{Claims}
-use Rattle.claims.specs.Parts.{Apart}
+use Rattle.claims.specs.Parts.{Apart, returned}
 use Rattle.claims.proofs.Contracts.{contracts}
 use Rattle.claims.proofs.Objects.{objects}
 
@@ -38,6 +38,16 @@ apart : (a n : ℕ) (l l' : List ℕ) → Within a n l l' → Apart a n l l'
 apart a n l l' w =
     record { below = λ i k h. part-below a n l l' w i k h; above = λ i k h. part-above a n l l' w i k h; whole = λ h. whole-stays a n l l' w h }
 
+in-part : (C : List ℕ → List ℕ → ℤ → List ℕ → List ℕ → Type 0) (a n c m : ℕ) (h b v w : List ℕ) (r : ℤ) → a + n ≤ length h → c + m ≤ length b
+    → length v ≡ n → length w ≡ m → C (part a n h) (part c m b) r v w
+    → At C a n c m h b r (returned a n h v) (returned c m b w) × (Apart a n h (returned a n h v) × Apart c m b (returned c m b w))
+in-part C a n c m h b v w r f g k l d =
+    let x = within-put a n h f v k in
+    let y = within-put c m b g w l in (
+      record { does = rw (part-put a n h f v k, part-put c m b g w l) d; header = x; memory = y },
+      (apart a n h (returned a n h v) x, apart c m b (returned c m b w) y),
+    )
+
 pub claims : Claims
 claims =
     record {
@@ -47,7 +57,7 @@ claims =
       outside = λ L f h e r h' e' d. (d .beside, d .rest);
       outside-too = outside-too;
       border = (sem.border, mutex.border);
-      in-part = λ C a n c m h b r h' b' t. (apart a n h h' (t .header), apart c m b b' (t .memory));
+      in-part = in-part;
       objects = objects;
       laws = all .determined .laws;
       nothing-else = all .determined .next;

@@ -1,10 +1,10 @@
 -- A field for each sentence of README.md and docs/THEOREMS.md.
 use mathlib.Core.Path.{_≡_}
 use mathlib.Core.List.{List, _∷_}
-use Prim.Native.Nat.{ℕ, _≤_}
+use Prim.Native.Nat.{ℕ, _+_, _≤_}
 use lib.IntN.{ℤ, negsuc}
-use lib.ListN.{drop, getD}
-use Rattle.seq.specs.Part.{At}
+use lib.ListN.{length, drop, getD}
+use Rattle.seq.specs.Part.{part, At}
 use Rattle.kind.specs.Object as kind
 use Rattle.store.specs.Store as store
 use Rattle.wait_queue.specs.Post.{Refused}
@@ -24,7 +24,7 @@ use Rattle.system.specs.History.{Histories}
 use Rattle.system.specs.Library.{stock, library}
 use Rattle.claims.specs.Contracts.{Contracts}
 use Rattle.claims.specs.Objects.{Objects}
-use Rattle.claims.specs.Parts.{Apart}
+use Rattle.claims.specs.Parts.{Apart, returned}
 
 -- of every kernel that keeps the laws, from every start, after every history
 abbrev pub Always : (Run rtos → List (Op rtos) → Type 0) → Type 0
@@ -47,9 +47,11 @@ pub record Claims : Type 1 where
       → (drop (P .words) h' ≡ drop (P .words) h) × (drop (P .size h') b' ≡ drop (P .size h') b)
   -- 20: what give, take, lock and unlock on plain numbers refuse
   pub border : sem.Border × mutex.Border
-  -- 21: a function that is lent parts of a larger header and a larger memory
-  pub in-part : (C : List ℕ → List ℕ → ℤ → List ℕ → List ℕ → Type 0) (a n c m : ℕ) (h b : List ℕ) (r : ℤ) (h' b' : List ℕ) → At C a n c m h b r h' b'
-      → Apart a n h h' × Apart c m b b'
+  -- 21: a function was lent parts of a larger header and a larger memory, and kept its contract there. So it is kept on the parts of the whole, and
+  -- every other part stays
+  pub in-part : (C : List ℕ → List ℕ → ℤ → List ℕ → List ℕ → Type 0) (a n c m : ℕ) (h b v w : List ℕ) (r : ℤ) → a + n ≤ length h → c + m ≤ length b
+      → length v ≡ n → length w ≡ m → C (part a n h) (part c m b) r v w
+      → At C a n c m h b r (returned a n h v) (returned c m b w) × (Apart a n h (returned a n h v) × Apart c m b (returned c m b w))
   -- 4 to 6, 9, 12 to 18: objects alone, after any calls
   pub objects : Objects
   -- ---- docs/THEOREMS.md, and 3 and 7 of README.md
