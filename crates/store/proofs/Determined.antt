@@ -7,9 +7,9 @@ use lib.Dec.{leb}
 use lib.IntN.{ℤ}
 use lib.ListN.{length, take-append-drop}
 use Rattle.seq.specs.Only.{Only}
-use Rattle.seq.proofs.Only.{and, alike-only}
+use Rattle.seq.proofs.Only.{said, and, alike-only}
 use Rattle.thread.specs.Code.{ok, einval}
-use Rattle.store.specs.Store.{Reply, refuse, accept, Decided, Place, reply, Becomes, After, Did, Started}
+use Rattle.store.specs.Store.{Reply, refuse, accept, Decided, Place, reply, Becomes, After, Did, Fills, Hands, Started}
 use Rattle.store.specs.Determined.{Faithful}
 
 -- the answer, the header and the buffer
@@ -38,7 +38,7 @@ module _ {S : Type 0} {P : Place S} (t : Faithful P) (h b : List ℕ) where
       where
         go : (z : Reply S) → After P z h b h₁ b₁ → After P z h b h₂ b₂ → (h₁ ≡ h₂) × (b₁ ≡ b₂)
         go (refuse c) u v = (u .0 ∙ sym (v .0), u .1 ∙ sym (v .1))
-        go (accept s c) u v = becomes-only s h₁ b₁ h₂ b₂ u v
+        go (accept s c o) u v = becomes-only s h₁ b₁ h₂ b₂ u v
 
     pub did-only : Only (λ ((r, h', b') : Outcome). Did P f h b r h' b')
     did-only x y m n = let k = did-same m n in λ i. (k .0 i, k .1 i, k .2 i)
@@ -47,9 +47,12 @@ module _ {S : Type 0} {P : Place S} (t : Faithful P) (h b : List ℕ) where
     pub reads-only : Only (λ ((r, h') : ℤ × List ℕ). Did P f h b r h' b)
     reads-only x y m n = let q = did-only (x .0, x .1, b) (y .0, y .1, b) m n in λ i. (q i .0, q i .1)
 
-    -- and a word or a place is handed out
-    pub hands-only : {A : Type 0} (Q : A → Type 0) → Only Q → Only (λ ((r, h', o') : ℤ × List ℕ × A). Did P f h b r h' b × Q o')
-    hands-only Q q = and (λ r h'. Did P f h b r h' b) Q reads-only q
+    -- and a place is filled, or a word
+    pub fills-only : (o : List ℕ) → Only (λ ((r, h', o') : Outcome). Fills P f h b o r h' o')
+    fills-only o = and _ _ reads-only (said _)
+
+    pub hands-only : (x : ℕ) → Only (λ ((r, h', x') : ℤ × List ℕ × ℕ). Hands P f h b x r h' x')
+    hands-only x = and _ _ reads-only (said _)
 
   module _ (may : Bool) (s : S) where
     pub started-only : Only (λ ((r, h', b') : Outcome). Started P may s h b r h' b')

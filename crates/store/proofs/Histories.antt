@@ -8,15 +8,15 @@ use lib.Dec.{leb}
 use lib.IntN.{ℤ}
 use lib.ListN.{length}
 use Rattle.thread.specs.Code.{ok, einval}
-use Rattle.store.specs.Store.{Reply, refuse, accept, answer, left, Place, After, Did, looks, Filled, first, Started}
-use Rattle.store.specs.History.{Step, Ran, fresh, ran, Made, begun, made, Event, Run, start, then}
+use Rattle.store.specs.Store.{Reply, refuse, accept, answer, left, out, Place, After, Did, looks, Filled, first, Started}
+use Rattle.store.specs.History.{Step, Ran, fresh, ran, Made, begun, made}
 use Rattle.store.proofs.Laws.{replies, answers, did-bad, looks-is, looks-bad, handed-is}
 
 module _ {S : Type 0} (P : Place S) where
   leaves : (y : Reply S) (h b h' b' : List ℕ) → P .formed h b ≡ true → After P y h b h' b'
       → (P .formed h' b' ≡ true) × (P .object h' b' ≡ left y (P .object h b))
   leaves (refuse r) h b h' b' e a = rw (a .0, a .1) (e, refl)
-  leaves (accept s r) h b h' b' e a = (a .formed, a .object)
+  leaves (accept s r o) h b h' b' e a = (a .formed, a .object)
 
   -- one call
   pub done : (f : S → Reply S) (h b : List ℕ) {r : ℤ} {h' b' : List ℕ} → P .formed h b ≡ true → Did P f h b r h' b'
@@ -29,7 +29,7 @@ module _ {S : Type 0} (P : Place S) where
     where
       after : (y : Reply S) → P .formed h b ≡ true → left y (P .object h b) ≡ P .object h b → After P y h b h b
       after (refuse c) k l = (refl, refl)
-      after (accept s c) k l = record { formed = k; object = sym l; beside = refl; rest = refl; long = (refl, refl) }
+      after (accept s c o) k l = record { formed = k; object = sym l; beside = refl; rest = refl; long = (refl, refl) }
 
       go : (x : Bool) → P .formed h b ≡ x → Did P f h b r h b
       go true k =
@@ -45,26 +45,26 @@ first-filled [] x y f e = ap (λ (z : ℕ). z ∷ []) e
 first-filled (z ∷ []) x y f e = ap (λ (z : ℕ). z ∷ []) e
 first-filled (z ∷ w ∷ l) x y f e = absurd (omega arith)
 
-module _ {S K : Type 0} (P : Place S) (does : K → S → Reply S) (gives : K → S → List ℕ) where
-  pub runs : {h₀ b₀ : List ℕ} → P .formed h₀ b₀ ≡ true → {ss : List (Step K)} {h b : List ℕ} → Made P does gives h₀ b₀ ss h b
-      → (P .formed h b ≡ true) × Ran does gives (P .object h₀ b₀) ss (P .object h b)
+module _ {S K : Type 0} (P : Place S) (does : K → S → Reply S) where
+  pub runs : {h₀ b₀ : List ℕ} → P .formed h₀ b₀ ≡ true → {ss : List (Step K)} {h b : List ℕ} → Made P does h₀ b₀ ss h b
+      → (P .formed h b ≡ true) × Ran does (P .object h₀ b₀) ss (P .object h b)
   runs e begun = (e, fresh)
   runs {h₀} {b₀} e (made {ss} {k} {r} {h} {b} {h'} {b'} o o' m d f) =
       let a = runs e m in
       let t = done P (does k) h b (a .0) d in
-      let g : Filled (gives k (P .object h b)) o o' = rw (handed-is P h b (gives k) (a .0)) at f in (
+      let g : Filled (out (does k (P .object h b))) o o' = rw (handed-is P (does k) h b (a .0)) at f in (
         t .0,
-        subst (λ (s : S). Ran does gives (P .object h₀ b₀) (record { call = k; answer = r; out = o' } ∷ ss) s) (sym (t .1))
-            (subst (λ (z : ℤ). Ran does gives (P .object h₀ b₀) (record { call = k; answer = z; out = o' } ∷ ss) (left (does k (P .object h b)) (P .object h b)))
+        subst (λ (s : S). Ran does (P .object h₀ b₀) (record { call = k; answer = r; out = o' } ∷ ss) s) (sym (t .1))
+            (subst (λ (z : ℤ). Ran does (P .object h₀ b₀) (record { call = k; answer = z; out = o' } ∷ ss) (left (does k (P .object h b)) (P .object h b)))
             (sym (answers P (does k) h b d (a .0))) (ran o o' (a .1) g)),
       )
 
   -- after a start that is answered 0
-  pub from-start : {m : Bool} {s : S} {h b h₀ b₀ : List ℕ} → Started P m s h b ok h₀ b₀ → {ss : List (Step K)} {h' b' : List ℕ} → Made P does gives h₀ b₀ ss h' b'
-      → (P .formed h' b' ≡ true) × Ran does gives s ss (P .object h' b')
+  pub from-start : {m : Bool} {s : S} {h b h₀ b₀ : List ℕ} → Started P m s h b ok h₀ b₀ → {ss : List (Step K)} {h' b' : List ℕ} → Made P does h₀ b₀ ss h' b'
+      → (P .formed h' b' ≡ true) × Ran does s ss (P .object h' b')
   from-start x {ss} {h'} {b'} m =
       let a = runs (x .made refl .formed) m in
-      (a .0, subst (λ (t : S). Ran does gives t ss (P .object h' b')) (x .made refl .object) (a .1))
+      (a .0, subst (λ (t : S). Ran does t ss (P .object h' b')) (x .made refl .object) (a .1))
 
 -- what was started may be
 pub allowed : {S : Type 0} {P : Place S} {m : Bool} {s : S} {h b h' b' : List ℕ} → Started P m s h b ok h' b' → m ≡ true
@@ -75,14 +75,14 @@ allowed {P = P} {m} {h = h} x = go (leb (P .words) (length h)) m (x .code)
     go true false e = absurd (let y : _≡_ {A = ℕ} 0 1 = cc in omega arith)
     go false m e = absurd (let y : _≡_ {A = ℕ} 0 1 = cc in omega arith)
 
--- what each call keeps holds after any of them
-module _ {S K : Type 0} (P : Place S) (does : K → S → Reply S) (I : List (Event K) → S → Type 0)
-    (keeps : (k : K) (es : List (Event K)) (s : S) → I es s → I (record { call = k; answer = answer (does k s) } ∷ es) (left (does k s) s)) where
-  pub throughout : {h₀ b₀ : List ℕ} → P .formed h₀ b₀ ≡ true → I [] (P .object h₀ b₀) → {es : List (Event K)} {h b : List ℕ} → Run P does h₀ b₀ es h b
-      → (P .formed h b ≡ true) × I es (P .object h b)
-  throughout e i start = (e, i)
-  throughout e i (then {es} {h} {b} {h'} {b'} k r m d) =
-      let p = throughout e i m in
-      let q = done P (does k) h b (p .0) d in
-      let a = answers P (does k) h b d (p .0) in
-      (q .0, subst (λ (s : S). I (record { call = k; answer = r } ∷ es) s) (sym (q .1)) (subst (λ (z : ℤ). I (record { call = k; answer = z } ∷ es) (left (does k (P .object h b)) (P .object h b))) (sym a) (keeps k es (P .object h b) (p .1))))
+-- what each step keeps holds after any of them
+module _ {S K : Type 0} (does : K → S → Reply S) (I : List (Step K) → S → Type 0)
+    (keeps : (k : K) (ss : List (Step K)) (s : S) (o : List ℕ) → I ss s → I (record { call = k; answer = answer (does k s); out = o } ∷ ss) (left (does k s) s)) where
+  pub throughout : {s₀ : S} → I [] s₀ → {ss : List (Step K)} {s : S} → Ran does s₀ ss s → I ss s
+  throughout i fresh = i
+  throughout i (ran {ss} {s} {k} o o' m f) = keeps k ss s o' (throughout i m)
+
+  -- in memory
+  pub throughout-made : (P : Place S) {h₀ b₀ : List ℕ} → P .formed h₀ b₀ ≡ true → I [] (P .object h₀ b₀) → {ss : List (Step K)} {h b : List ℕ}
+      → Made P does h₀ b₀ ss h b → (P .formed h b ≡ true) × I ss (P .object h b)
+  throughout-made P e i m = let a = runs P does e m in (a .0, throughout i (a .1))

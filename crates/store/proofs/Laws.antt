@@ -10,7 +10,7 @@ use lib.ListN.{length}
 use Rattle.seq.specs.List.{any}
 pub use Rattle.seq.proofs.Order.{both-true}
 use Rattle.thread.specs.Code.{ok, einval}
-use Rattle.store.specs.Store.{Reply, refuse, accept, answer, Decided, Place, reply, Becomes, After, Did, looks, handed, first, Started}
+use Rattle.store.specs.Store.{Reply, refuse, accept, answer, out, Decided, Place, reply, Becomes, After, Did, looks, Filled, first, Fills, Hands, Started}
 
 pub any-some : {A : Type 0} (l : List A) → 0 < length l → any l ≡ true
 any-some [] f = absurd (omega arith)
@@ -42,12 +42,42 @@ module _ {S : Type 0} (P : Place S) (f : S → Reply S) (h b : List ℕ) where
   did-no {c} e o = did (refuse c) h b (replies e ∙ o) (refl, refl)
 
   -- it was done
-  pub did-yes : {s : S} {r : ℤ} {h' b' : List ℕ} → P .formed h b ≡ true → f (P .object h b) ≡ accept s r → Becomes P s h b h' b' → Did P f h b r h' b'
-  did-yes {s} {r} {h'} {b'} e o m = did (accept s r) h' b' (replies e ∙ o) m
+  pub did-yes : {s : S} {r : ℤ} {l : List ℕ} {h' b' : List ℕ} → P .formed h b ≡ true → f (P .object h b) ≡ accept s r l → Becomes P s h b h' b'
+      → Did P f h b r h' b'
+  did-yes {s} {r} {l} {h'} {b'} e o m = did (accept s r l) h' b' (replies e ∙ o) m
+
+  -- what is handed out: nothing, or what the operation says
+  pub handed-bad : P .formed h b ≡ false → out (reply P f h b) ≡ []
+  handed-bad e = ap out (replies-bad e)
+
+  pub handed-is : P .formed h b ≡ true → out (reply P f h b) ≡ out (f (P .object h b))
+  handed-is e = ap out (replies e)
+
+  module _ (o : List ℕ) where
+    pub fills-bad : P .formed h b ≡ false → Fills P f h b o einval h o
+    fills-bad e = (did-bad e, rw (handed-bad e) refl)
+
+    pub fills-no : {c : ℤ} → P .formed h b ≡ true → f (P .object h b) ≡ refuse c → Fills P f h b o c h o
+    fills-no e y = (did-no e y, rw (replies e, y) refl)
+
+    pub fills-yes : {s : S} {r : ℤ} {l : List ℕ} {h' o' : List ℕ} → P .formed h b ≡ true → f (P .object h b) ≡ accept s r l → Becomes P s h b h' b
+        → Filled l o o' → Fills P f h b o r h' o'
+    fills-yes e y m g = (did-yes e y m, rw (replies e, y) g)
+
+  module _ (x : ℕ) where
+    pub hands-bad : P .formed h b ≡ false → Hands P f h b x einval h x
+    hands-bad e = (did-bad e, rw (handed-bad e) refl)
+
+    pub hands-no : {c : ℤ} → P .formed h b ≡ true → f (P .object h b) ≡ refuse c → Hands P f h b x c h x
+    hands-no e y = (did-no e y, rw (replies e, y) refl)
+
+    pub hands-yes : {s : S} {r : ℤ} {l : List ℕ} {h' : List ℕ} → P .formed h b ≡ true → f (P .object h b) ≡ accept s r l → Becomes P s h b h' b
+        → Hands P f h b x r h' (first x l)
+    hands-yes e y m = (did-yes e y m, rw (replies e, y) refl)
 
   module _ {r : ℤ} {h' b' : List ℕ} (d : Did P f h b r h' b') where
     -- what a caller knows of an operation that was done
-    pub became : {s : S} {a : ℤ} → P .formed h b ≡ true → f (P .object h b) ≡ accept s a → Becomes P s h b h' b'
+    pub became : {s : S} {a : ℤ} {l : List ℕ} → P .formed h b ≡ true → f (P .object h b) ≡ accept s a l → Becomes P s h b h' b'
     became e o = subst (λ (x : Reply S). After P x h b h' b') (replies e ∙ o) (d .after)
 
     pub answers : P .formed h b ≡ true → r ≡ answer (f (P .object h b))
@@ -65,34 +95,25 @@ module _ {S : Type 0} (P : Place S) (f : S → Reply S) (h b : List ℕ) where
 
 -- what is decided on plain numbers, or declined
 module _ {d : Reply ℕ} {a : ℤ} where
-  pub decides : {n : ℕ} (m : ℕ) → d ≡ accept n a → Decided d m a n
+  pub decides : {n : ℕ} {l : List ℕ} (m : ℕ) → d ≡ accept n a l → Decided d m a n
   decides m e = rw e (record { code = refl; number = refl })
 
   pub declines : (m : ℕ) → d ≡ refuse a → Decided d m a m
   declines m e = rw e (record { code = refl; number = refl })
 
-  pub decided : {n m m' : ℕ} {r : ℤ} → d ≡ accept n a → Decided d m r m' → (r ≡ a) × (m' ≡ n)
-  decided {n} {m} {m'} {r} e x = let y = subst (λ (z : Reply ℕ). Decided z m r m') e x in (y .code, y .number)
+  pub decided : {n m m' : ℕ} {l : List ℕ} {r : ℤ} → d ≡ accept n a l → Decided d m r m' → (r ≡ a) × (m' ≡ n)
+  decided {n} {m} {m'} {l} {r} e x = let y = subst (λ (z : Reply ℕ). Decided z m r m') e x in (y .code, y .number)
 
   pub declined : {m m' : ℕ} {r : ℤ} → d ≡ refuse a → Decided d m r m' → (r ≡ a) × (m' ≡ m)
   declined {m} {m'} {r} e x = let y = subst (λ (z : Reply ℕ). Decided z m r m') e x in (y .code, y .number)
 
 module _ {S : Type 0} (P : Place S) (h b : List ℕ) where
-  -- what is told and handed out of a malformed object, and of any other
+  -- what is told of a malformed object, and of any other
   pub looks-bad : (f : S → ℤ) → P .formed h b ≡ false → looks P f h b ≡ einval
   looks-bad f e = rw e
 
   pub looks-is : (f : S → ℤ) → P .formed h b ≡ true → looks P f h b ≡ f (P .object h b)
   looks-is f e = rw e
-
-  pub handed-bad : (f : S → List ℕ) → P .formed h b ≡ false → handed P f h b ≡ []
-  handed-bad f e = rw e
-
-  pub handed-is : (f : S → List ℕ) → P .formed h b ≡ true → handed P f h b ≡ f (P .object h b)
-  handed-is f e = rw e
-
-  pub hands-none : (f : S → List ℕ) (x : ℕ) → P .formed h b ≡ false → x ≡ first x (handed P f h b)
-  hands-none f x e = rw e
 
 module _ {S : Type 0} {P : Place S} {may : Bool} {s : S} {h b : List ℕ} where
   -- a header that is too short

@@ -1,3 +1,4 @@
 pub mod Store
+pub mod Product
 pub mod History
 pub mod Determined
