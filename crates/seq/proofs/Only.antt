@@ -1,11 +1,11 @@
 -- Contracts that leave nothing open, and those that are made of such. Assumes nothing.
 use mathlib.Core.Path.{_≡_, refl, sym, ap, _∙_}
 use mathlib.Core.Bool.{Bool, true, false}
-use mathlib.Core.List.{List}
-use Prim.Native.Nat.{ℕ, zero, suc, _+_, _-_}
+use mathlib.Core.List.{List, [], _∷_}
+use Prim.Native.Nat.{ℕ, zero, suc, _+_, _-_, _≤_}
 use native.Mathlib.Omega.{arith}
 use lib.Dec.{ltb}
-use lib.ListN.{length, getD, drop}
+use lib.ListN.{length, getD, take, drop}
 use lib.Seq.{getD-drop, ext-getD}
 use borrow.Author.Tests.{ltb-true, ltb-false}
 use Rattle.seq.specs.List.{back}
@@ -55,3 +55,12 @@ alike-only n e e' l a d = ext-getD 0 e e' l (λ i b. go i (ltb i n) refl)
         let x : getD e (n + (i - n)) 0 ≡ getD e' (n + (i - n)) 0 =
         sym (getD-drop n e (i - n) 0) ∙ ap (λ (l : List ℕ). getD l (i - n) 0) d ∙ getD-drop n e' (i - n) 0 in
         rw k at x
+
+pub take-alike : (n : ℕ) (e e' : List ℕ) → n ≤ length e → n ≤ length e' → Alike n e e' → take n e ≡ take n e'
+take-alike zero e e' l m a = refl
+take-alike (suc n) [] e' l m a = absurd (omega arith)
+take-alike (suc n) (x ∷ e) [] l m a = absurd (omega arith)
+take-alike (suc n) (x ∷ e) (y ∷ e') l m a =
+    let z : x ≡ y = a 0 (omega arith) in
+    let t = take-alike n e e' (omega arith) (omega arith) (λ i b. a (suc i) (omega arith)) in
+    λ i. z i ∷ t i

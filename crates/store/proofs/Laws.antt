@@ -93,6 +93,11 @@ module _ {S : Type 0} (P : Place S) (f : S → Reply S) (h b : List ℕ) where
     pub kept-no : {c : ℤ} → P .formed h b ≡ true → f (P .object h b) ≡ refuse c → (r ≡ c) × (h' ≡ h) × (b' ≡ b)
     kept-no e o = kept (replies e ∙ o)
 
+-- operations with the same reply do the same
+pub did-alike : {S : Type 0} (P : Place S) (f g : S → Reply S) (h b : List ℕ) {r : ℤ} {h' b' : List ℕ} → reply P f h b ≡ reply P g h b → Did P f h b r h' b'
+    → Did P g h b r h' b'
+did-alike {S} P f g h b {h' = h'} {b' = b'} o d = record { code = d .code ∙ ap answer o; after = subst (λ (y : Reply S). After P y h b h' b') o (d .after) }
+
 -- what is decided on plain numbers, or declined
 module _ {d : Reply ℕ} {a : ℤ} where
   pub decides : {n : ℕ} {l : List ℕ} (m : ℕ) → d ≡ accept n a l → Decided d m a n
