@@ -1,85 +1,103 @@
 -- What an object becomes tells each word of its header and each of its entries. So a contract leaves nothing open. Assumes nothing.
 use mathlib.Core.Path.{_≡_, sym, ap, _∙_}
 use mathlib.Core.Bool.{Bool, true, false, cond}
-use mathlib.Core.List.{List, []}
-use Prim.Native.Nat.{ℕ}
+use mathlib.Core.List.{List, [], _++_}
+use Prim.Native.Nat.{ℕ, suc}
 use lib.Dec.{leb}
 use lib.IntN.{ℤ}
-use lib.ListN.{length, getD}
+use lib.ListN.{length, getD, take, take-append-drop}
 use Rattle.seq.specs.Only.{Only, Alike}
-use Rattle.seq.proofs.Back.{back-length}
-use Rattle.seq.proofs.Only.{said, and, exactly, alike-only}
+use Rattle.seq.proofs.Order.{clash}
+use Rattle.seq.proofs.Only.{said, exactly, alike-only}
 use Rattle.thread.specs.Code.{ok, einval}
-use Rattle.wait_queue.specs.Queue.{waiting}
-use Rattle.wait_queue.proofs.Determined.{queue-only, told-only}
+use Rattle.store.specs.Store.{Reply, refuse, accept, reply, Becomes, After, Did}
+use Rattle.store.specs.Determined.{Faithful}
+use Rattle.store.proofs.Determined.{Outcome}
+use Rattle.wait_queue.specs.Queue.{roomy}
+use Rattle.wait_queue.proofs.Determined.{same-length, same-entries}
+use Rattle.wait_queue.proofs.Memory.{blank, blank-roomy}
 use Rattle.kind.specs.Kind.{Kind}
-use Rattle.kind.specs.Object.{Out, Layout, on, Does, Started, Audited}
-use Rattle.kind.specs.Post.{Tells, Lists}
-use Rattle.kind.specs.Determined.{Faithful, Determined}
+use Rattle.kind.specs.Object.{Object, Layout, standing, Opened, Audited}
+use Rattle.kind.specs.Determined.{Legible, Determined}
 
--- the answer, the header and the entries
-abbrev pub Outcome : Type 0
-Outcome = ℤ × List ℕ × List ℕ
+module _ {N : Type 0} (L : Layout N) where
+  its-room : (h e : List ℕ) → standing L .formed h e ≡ true → roomy (getD h (L .len) 0) e ≡ true
+  its-room h e f = go (leb (suc (L .len)) (length h)) f
+    where
+      go : (a : Bool) → cond a (roomy (getD h (L .len) 0) e) false ≡ true → roomy (getD h (L .len) 0) e ≡ true
+      go true z = z
+      go false z = clash (sym z)
 
-module _ {N : Type 0} (L : Layout N) (f : N → List ℕ → Out N) (h e : List ℕ) where
+  its-length : (h h' e e' : List ℕ) → standing L .object h e ≡ standing L .object h' e' → getD h (L .len) 0 ≡ getD h' (L .len) 0
+  its-length h h' e e' q = same-length e e' (getD h (L .len) 0) (getD h' (L .len) 0) (ap (λ (x : Object N). x .queue) q)
+
+  its-entries : (h e e' : List ℕ) → standing L .formed h e ≡ true → standing L .formed h e' ≡ true → standing L .object h e ≡ standing L .object h e'
+      → take (getD h (L .len) 0) e ≡ take (getD h (L .len) 0) e'
+  its-entries h e e' f g q = same-entries (getD h (L .len) 0) e e' (its-room h e f) (its-room h e' g) (ap (λ (x : Object N). x .queue) q)
+
+  pub faithful : Legible L → Faithful (standing L)
+  faithful t =
+      record {
+        header = λ h e h' e' f g q. t h h' (ap (λ (x : Object N). x .num) q) (its-length h h' e e' q);
+        buffer = its-entries;
+      }
+
   -- if the numbers and the length tell the own words of these two headers
-  pub same-outcome : (x y : Outcome) → Does L f h e (x .0) (x .1) (x .2) → Does L f h e (y .0) (y .1) (y .2)
-      → (L .num (x .1) ≡ L .num (y .1) → getD (x .1) (L .len) 0 ≡ getD (y .1) (L .len) 0 → Alike (L .words) (x .1) (y .1))
-      → x ≡ y
-  same-outcome x y m k a =
-      let n : L .num (x .1) ≡ L .num (y .1) = m .num ∙ sym (k .num) in
-      let q =
-      queue-only e (getD (x .1) (L .len) 0) (getD (y .1) (L .len) 0) (x .2) (y .2) (m .queue ∙ sym (k .queue)) (m .rest) (k .rest) (m .long .1) (k .long .1) in
-      let r : x .0 ≡ y .0 = m .code ∙ sym (k .code) in
-      let w : x .1 ≡ y .1 = alike-only (L .words) (x .1) (y .1) (m .long .0 ∙ sym (k .long .0)) (a n (q .0)) (m .beside ∙ sym (k .beside)) in
-      λ i. (r i, w i, q .1 i)
+  module _ (h e : List ℕ) where
+    same-memory : (s : Object N) (h₁ e₁ h₂ e₂ : List ℕ) → Becomes (standing L) s h e h₁ e₁ → Becomes (standing L) s h e h₂ e₂
+        → (L .num h₁ ≡ L .num h₂ → getD h₁ (L .len) 0 ≡ getD h₂ (L .len) 0 → Alike (suc (L .len)) h₁ h₂)
+        → (h₁ ≡ h₂) × (e₁ ≡ e₂)
+    same-memory s h₁ e₁ h₂ e₂ u v a =
+        let q = u .object ∙ sym (v .object) in
+        let n = its-length h₁ h₂ e₁ e₂ q in
+        let w : h₁ ≡ h₂ =
+        alike-only (suc (L .len)) h₁ h₂ (u .long .0 ∙ sym (v .long .0)) (a (ap (λ (x : Object N). x .num) q) n) (u .beside ∙ sym (v .beside)) in
+        (w, entries (rw w at u) v)
+      where
+        entries : Becomes (standing L) s h e h₂ e₁ → Becomes (standing L) s h e h₂ e₂ → e₁ ≡ e₂
+        entries m k =
+            let t = its-entries h₂ e₁ e₂ (m .formed) (k .formed) (m .object ∙ sym (k .object)) in
+            let d = m .rest ∙ sym (k .rest) in
+            sym (take-append-drop (getD h₂ (L .len) 0) e₁) ∙ (λ i. t i ++ d i) ∙ take-append-drop (getD h₂ (L .len) 0) e₂
 
-  module _ (t : Faithful L) where
-    pub does-only : Only (λ ((r, h', e') : Outcome). Does L f h e r h' e')
-    does-only x y m k = same-outcome x y m k (t (x .1) (y .1))
-
-    -- the entries are not written
-    pub reads-only : Only (λ ((r, h') : ℤ × List ℕ). Does L f h e r h' e)
-    reads-only x y m k = let q = does-only (x .0, x .1, e) (y .0, y .1, e) m k in λ i. (q i .0, q i .1)
-
-    -- and a woken thread is told
-    pub tells-only : (w : ℕ) → Only (λ ((r, h', w') : ℤ × List ℕ × ℕ). Tells L f h e w r h' w')
-    tells-only w = and _ _ reads-only (told-only (on L f h e .turn .woken) w)
-
-    -- or all of them
-    pub lists-only : (o : List ℕ) → Only (λ ((r, h', o') : Outcome). Lists L f h e o r h' o')
-    lists-only o = and _ _ reads-only (said _)
+    pub same-outcome : (f : Object N → Reply (Object N)) (x y : Outcome) → Did (standing L) f h e (x .0) (x .1) (x .2) → Did (standing L) f h e (y .0) (y .1) (y .2)
+        → (L .num (x .1) ≡ L .num (y .1) → getD (x .1) (L .len) 0 ≡ getD (y .1) (L .len) 0 → Alike (suc (L .len)) (x .1) (y .1))
+        → x ≡ y
+    same-outcome f x y m k a =
+        let r : x .0 ≡ y .0 = m .code ∙ sym (k .code) in
+        let w = go (reply (standing L) f h e) (m .after) (k .after) in
+        λ i. (r i, w .0 i, w .1 i)
+      where
+        go : (z : Reply (Object N)) → After (standing L) z h e (x .1) (x .2) → After (standing L) z h e (y .1) (y .2) → (x .1 ≡ y .1) × (x .2 ≡ y .2)
+        go (refuse c) u v = (u .0 ∙ sym (v .0), u .1 ∙ sym (v .1))
+        go (accept s c o) u v = same-memory s (x .1) (x .2) (y .1) (y .2) u v a
 
 -- a new object
 module _ (K : Kind) (L : Layout (K .Num)) (n : K .Num) (h : List ℕ) where
-  pub same-start : (x y : ℤ × List ℕ) → Started K L n h (x .0) (x .1) → Started K L n h (y .0) (y .1)
-      → (L .num (x .1) ≡ L .num (y .1) → getD (x .1) (L .len) 0 ≡ getD (y .1) (L .len) 0 → Alike (L .words) (x .1) (y .1))
+  pub same-start : (x y : ℤ × List ℕ) → Opened K L n h (x .0) (x .1) → Opened K L n h (y .0) (y .1)
+      → (L .num (x .1) ≡ L .num (y .1) → getD (x .1) (L .len) 0 ≡ getD (y .1) (L .len) 0 → Alike (suc (L .len)) (x .1) (y .1))
       → x ≡ y
   same-start x y m k a =
-      let w = go (leb (L .words) (length h)) (K .formed n false) (m .code) (k .code) in
-      let r : x .0 ≡ y .0 = m .code ∙ sym (k .code) in
+      let p = m blank blank-roomy in
+      let q = k blank blank-roomy in
+      let r : x .0 ≡ y .0 = p .code ∙ sym (q .code) in
+      let w = go (leb (suc (L .len)) (length h)) (K .formed n false) (p .code) (q .code) in
       λ i. (r i, w i)
     where
-      nobody : (c : ℕ) → ((e : List ℕ) → waiting e c ≡ []) → c ≡ 0
-      nobody c q = sym (back-length [] c) ∙ ap length (q [])
-
       made : x .0 ≡ ok → y .0 ≡ ok → x .1 ≡ y .1
-      made p q =
-          let c = m .made p in
-          let d = k .made q in
-          let l = nobody _ (c .1) ∙ sym (nobody _ (d .1)) in
-          alike-only (L .words) (x .1) (y .1) (m .long ∙ sym (k .long)) (a (c .0 ∙ sym (d .0)) l) (m .beside ∙ sym (k .beside))
+      made u v =
+          same-memory L h blank (record { num = n; queue = [] }) (x .1) blank (y .1) blank (m blank blank-roomy .made u) (k blank blank-roomy .made v) a .0
 
       kept : x .0 ≡ einval → y .0 ≡ einval → x .1 ≡ y .1
-      kept p q = let c : x .1 ≡ h = rw p at (m .kept) in let d : y .1 ≡ h = rw q at (k .kept) in c ∙ sym d
+      kept u v = m blank blank-roomy .kept 21 u .0 ∙ sym (k blank blank-roomy .kept 21 v .0)
 
       go : (b c : Bool) → x .0 ≡ cond b (cond c ok einval) einval → y .0 ≡ cond b (cond c ok einval) einval → x .1 ≡ y .1
       go true true = made
       go true false = kept
       go false c = kept
 
-  pub started-only : Faithful L → Only (λ ((r, h') : ℤ × List ℕ). Started K L n h r h')
-  started-only t x y m k = same-start x y m k (t (x .1) (y .1))
+  pub opened-only : Legible L → Only (λ ((r, h') : ℤ × List ℕ). Opened K L n h r h')
+  opened-only t x y m k = same-start x y m k (t (x .1) (y .1))
 
 pub audited-only : (K : Kind) (L : Layout (K .Num)) (h e : List ℕ) → Only (λ (r : Bool). Audited K L h e r)
 audited-only K L h e x y m k = exactly x y (m .sound) (m .complete) (k .sound) (k .complete)

@@ -1,35 +1,39 @@
 -- The answers of an operation on an object in memory. Assumes nothing.
 use mathlib.Core.Path.{_≡_, refl, sym, ap, _∙_}
 use mathlib.Core.Bool.{Bool, true, false, cond}
-use mathlib.Core.List.{List, []}
+use mathlib.Core.List.{List, [], _∷_}
 use Prim.Native.Nat.{ℕ, zero, suc, _≤_, _<_}
 use native.Mathlib.Omega.{arith}
 use lib.Dec.{ltb, leb}
-use lib.IntN.{ℤ, pos, negsuc}
+use lib.IntN.{ℤ}
 use lib.ListN.{length, getD, set, drop, length-set}
-use lib.Seq.{getD-set-same, set-getD, drop-set-lt}
+use lib.Seq.{drop-set-lt}
 use borrow.Author.Tests.{lt-ltb, le-leb, leb-true}
 use Rattle.seq.specs.List.{any}
 use Rattle.seq.proofs.Order.{clash, cond-same}
 use Rattle.thread.specs.Code.{einval}
+use Rattle.store.specs.Store.{Reply, refuse, accept, answer, left, carry, reply, Becomes, Did}
+use Rattle.store.specs.Product.{_⊗_, behind, numbers}
+use Rattle.store.proofs.Laws.{replies, did-yes, became, answers}
+use Rattle.store.proofs.Product.{lent-word, reshaped, withFirst, second-acts}
+use Rattle.store.proofs.Histories.{done}
 use Rattle.wait_queue.specs.Queue.{waiting, roomy}
-use Rattle.wait_queue.specs.Turn.{Turn, at}
-use Rattle.wait_queue.specs.Post.{Refused}
+use Rattle.wait_queue.specs.Turn.{waitQueue}
 use Rattle.wait_queue.specs.Post as queue
-use Rattle.wait_queue.proofs.Memory.{roomy-zero, not-at}
+use Rattle.wait_queue.proofs.Memory.{roomy-zero}
 use Rattle.kind.specs.Kind.{Kind}
-use Rattle.kind.specs.Object.{Out, refused, Layout, on, Does, sized, sane, Audited}
+use Rattle.kind.specs.Object.{Object, queued, fine, Layout, standing, sized, sane, Audited}
 
 -- the memory of an object is there
 pub record Housed {N : Type 0} (L : Layout N) (h e : List ℕ) : Type 0 where
-  pub words : L .words ≤ length h
+  pub words : suc (L .len) ≤ length h
   pub room : roomy (getD h (L .len) 0) e ≡ true
 
 -- the header h became h', with the numbers n and the length m; no other word changed
 pub record Header {N : Type 0} (L : Layout N) (h : List ℕ) (n : N) (m : ℕ) (h' : List ℕ) : Type 0 where
   pub num : L .num h' ≡ n
   pub len : getD h' (L .len) 0 ≡ m
-  pub beside : drop (L .words) h' ≡ drop (L .words) h
+  pub beside : drop (suc (L .len)) h' ≡ drop (suc (L .len)) h
   pub long : length h' ≡ length h
 
 module _ {N : Type 0} (L : Layout N) (h : List ℕ) where
@@ -37,104 +41,75 @@ module _ {N : Type 0} (L : Layout N) (h : List ℕ) where
   same-header = record { num = refl; len = refl; beside = refl; long = refl }
 
   -- one more of its own words was written
-  pub written : {n n' : N} {m m' : ℕ} {h' : List ℕ} (i x : ℕ) → Header L h n m h' → i < L .words → L .num (set h' i x) ≡ n' → getD (set h' i x) (L .len) 0 ≡ m'
+  pub written : {n n' : N} {m m' : ℕ} {h' : List ℕ} (i x : ℕ) → Header L h n m h' → i < suc (L .len) → L .num (set h' i x) ≡ n' → getD (set h' i x) (L .len) 0 ≡ m'
       → Header L h n' m' (set h' i x)
   written {h' = h'} i x t b y z =
-      record { num = y; len = z; beside = drop-set-lt (L .words) h' i x b ∙ t .beside; long = length-set h' i x ∙ t .long }
+      record { num = y; len = z; beside = drop-set-lt (suc (L .len)) h' i x b ∙ t .beside; long = length-set h' i x ∙ t .long }
 
-module _ {N : Type 0} (L : Layout N) (f : N → List ℕ → Out N) (h e : List ℕ) where
-  pub is-on : Housed L h e → on L f h e ≡ f (L .num h) (waiting e (getD h (L .len) 0))
-  is-on m = rw (le-leb (L .words) (length h) (m .words), m .room)
+module _ {N : Type 0} (L : Layout N) (h e : List ℕ) where
+  pub housed-formed : Housed L h e → standing L .formed h e ≡ true
+  housed-formed m = rw (le-leb (suc (L .len)) (length h) (m .words)) (m .room)
 
-  pub refuses : (k : ℕ) → on L f h e ≡ refused (negsuc k) (L .num h) (waiting e (getD h (L .len) 0)) → Does L f h e (negsuc k) h e
-  refuses k o = record { code = rw o; num = rw o; queue = rw o; kept = (refl, refl); beside = refl; rest = refl; long = (refl, refl) }
+  -- the numbers n and the queue q are left
+  pub left-so : (n : N) (m : ℕ) (q h' e' : List ℕ) → suc (L .len) ≤ length h → Header L h n m h' → roomy m e' ≡ true → waiting e' m ≡ q → drop m e' ≡ drop m e
+      → length e' ≡ length e → Becomes (standing L) (record { num = n; queue = q }) h e h' e'
+  left-so n m q h' e' b x r w d l =
+      let k : suc (L .len) ≤ length h' = omega (arith, b, x .long) in
+      let u : waiting e' (getD h' (L .len) 0) ≡ q = rw (x .len) w in
+      record {
+        formed = rw (le-leb (suc (L .len)) (length h') k) (rw (x .len) r);
+        object = λ i. record { num = x .num i; queue = u i };
+        beside = x .beside;
+        rest = rw (x .len) d;
+        long = (x .long, l);
+      }
 
-  pub no-room : L .words ≤ length h → roomy (getD h (L .len) 0) e ≡ false → Does L f h e einval h e
-  no-room l r = refuses 21 (rw (le-leb (L .words) (length h) l, r))
+  -- nobody waits
+  pub opened-so : (n : N) (h' : List ℕ) → suc (L .len) ≤ length h → Header L h n 0 h' → roomy 0 e ≡ true
+      → Becomes (standing L) (record { num = n; queue = [] }) h e h' e
+  opened-so n h' b x r = left-so n 0 [] h' e b x r refl refl refl
+
+module _ {N : Type 0} (L : Layout N) (f : Object N → Reply (Object N)) (h e : List ℕ) where
+  pub is-on : Housed L h e → reply (standing L) f h e ≡ f (standing L .object h e)
+  is-on m = replies (standing L) f h e (housed-formed L h e m)
 
   -- only the header changes
-  pub renumbered : (c : ℕ) (n : N) (h' : List ℕ) → Housed L h e
-      → f (L .num h) (waiting e (getD h (L .len) 0)) ≡ record { num = n; turn = record { code = pos c; queue = waiting e (getD h (L .len) 0); woken = [] } }
-      → Header L h n (getD h (L .len) 0) h' → Does L f h e (pos c) h' e
-  renumbered c n h' m t x =
-      let o = is-on m ∙ t in
-      record { code = rw o; num = rw o (x .num); queue = rw (o, x .len) refl; kept = tt; beside = x .beside; rest = refl; long = (x .long, refl) }
+  pub renumbered : (c : ℤ) (n : N) (o h' : List ℕ) → Housed L h e → f (standing L .object h e) ≡ accept (record { num = n; queue = waiting e (getD h (L .len) 0) }) c o
+      → Header L h n (getD h (L .len) 0) h' → Did (standing L) f h e c h' e
+  renumbered c n o h' m t x = did-yes (standing L) f h e (housed-formed L h e m) t (left-so L h e n (getD h (L .len) 0) (waiting e (getD h (L .len) 0)) h' e (m .words) x (m .room) refl refl refl)
 
-  -- the queue's turn g, which left k that wait; the numbers become n and the answer c
-  pub turned : (g : List ℕ → Turn) (n : N) (c : ℕ) (r : ℤ) (k : ℕ) (h' e' : List ℕ) → Housed L h e
-      → f (L .num h) (waiting e (getD h (L .len) 0)) ≡ record { num = n; turn = record { code = pos c; queue = at g (getD h (L .len) 0) e .queue; woken = at g (getD h (L .len) 0) e .woken } }
-      → queue.Does g (getD h (L .len) 0) e r k e' → Header L h n k h' → Does L f h e (pos c) h' e'
-  turned g n c r k h' e' m t d x =
-      let o = is-on m ∙ t in
-      record {
-        code = rw o;
-        num = rw o (x .num);
-        queue = rw (o, x .len) (d .queue);
-        kept = tt;
-        beside = x .beside;
-        rest = rw (x .len) (d .rest);
-        long = (x .long, d .long);
-      }
+  -- the queue became q by its own operation g, and k wait; the numbers become n and the answer c
+  pub turned : (g : List ℕ → Reply (List ℕ)) (n : N) (c : ℤ) (q o p : List ℕ) (a r : ℤ) (k : ℕ) (h' e' : List ℕ) → Housed L h e
+      → f (standing L .object h e) ≡ accept (record { num = n; queue = q }) c o → g (waiting e (getD h (L .len) 0)) ≡ accept q a p
+      → Did waitQueue g (getD h (L .len) 0 ∷ []) e r (k ∷ []) e' → Header L h n k h' → Did (standing L) f h e c h' e'
+  turned g n c q o p a r k h' e' m t y d x =
+      let b = became waitQueue g (getD h (L .len) 0 ∷ []) e d (m .room) y in
+      did-yes (standing L) f h e (housed-formed L h e m) t (left-so L h e n k q h' e' (m .words) x (b .formed) (b .object) (b .rest) (b .long .1))
 
-  -- the queue's turn g is all that happens
-  pub followed : (g : List ℕ → Turn) (r : ℤ) (k : ℕ) (e' : List ℕ) → Housed L h e → L .len < L .words
-      → f (L .num h) (waiting e (getD h (L .len) 0)) ≡ record { num = L .num h; turn = at g (getD h (L .len) 0) e }
-      → queue.Does g (getD h (L .len) 0) e r k e'
-      → L .num (set h (L .len) k) ≡ L .num h
-      → Does L f h e r (set h (L .len) k) e'
-  followed g r k e' m b t d x =
-      let o = is-on m ∙ t in
-      let y : getD (set h (L .len) k) (L .len) 0 ≡ k = getD-set-same h (L .len) k 0 (omega (arith, m .words)) in
-      record {
-        code = rw o (d .code);
-        num = rw o x;
-        queue = rw (o, y) (d .queue);
-        kept = stays r (d .kept);
-        beside = drop-set-lt (L .words) h (L .len) k b;
-        rest = rw y (d .rest);
-        long = (length-set h (L .len) k, d .long);
-      }
+  -- the queue's own operation g is all that happens
+  pub followed : (g : List ℕ → Reply (List ℕ)) (r : ℤ) (k : ℕ) (e' : List ℕ) → suc (L .len) ≤ length h
+      → (roomy (getD h (L .len) 0) e ≡ true
+      → f (standing L .object h e) ≡ queued (L .num h) (g (waiting e (getD h (L .len) 0))))
+      → Did waitQueue g (getD h (L .len) 0 ∷ []) e r (k ∷ []) e' → L .num (set h (L .len) k) ≡ L .num h
+      → Did (standing L) f h e r (set h (L .len) k) e'
+  followed g r k e' w t d x =
+      reshaped (λ (y : N × List ℕ). record { num = y .0; queue = y .1 }) (numbers (L .len) (L .num) ⊗ behind (L .len) waitQueue)
+      (λ y. withFirst (y .0) (g (y .1))) f h e (λ z. t (rw (le-leb (suc (L .len)) (length h) w) at z) ∙ again (g (waiting e (getD h (L .len) 0))))
+      (second-acts (numbers (L .len) (L .num)) (behind (L .len) waitQueue) (λ y. withFirst (y .0) (g (y .1))) h e refl g refl refl refl x (λ z. refl)
+      (lent-word waitQueue (L .len) g h e (omega arith) refl d))
     where
-      stays : (z : ℤ) → Refused z ((k ≡ getD h (L .len) 0) × (e' ≡ e)) → Refused z ((set h (L .len) k ≡ h) × (e' ≡ e))
-      stays (pos c) p = tt
-      stays (negsuc c) p = (rw (p .0) (set-getD h (L .len) 0), p .1)
-
--- a queue that has no room refuses, and so does its object
-pub followed-out : {N : Type 0} (L : Layout N) (f : N → List ℕ → Out N) (h e : List ℕ) (g : List ℕ → Turn) (r : ℤ) (k : ℕ) (e' : List ℕ) → L .words ≤ length h
-    → roomy (getD h (L .len) 0) e ≡ false → queue.Does g (getD h (L .len) 0) e r k e' → Does L f h e r (set h (L .len) k) e'
-followed-out L f h e g r k e' w o d =
-    let c : r ≡ einval = d .code ∙ ap (λ (t : Turn). t .code) (not-at (getD h (L .len) 0) e g o) in
-    let p : (k ≡ getD h (L .len) 0) × (e' ≡ e) = rw c at (d .kept) in
-    rw (c, p .0, p .1, set-getD h (L .len) 0) (no-room L f h e w o)
-
--- a refusal leaves every word as it was
-pub unchanged : {N : Type 0} (L : Layout N) (f : N → List ℕ → Out N) (h e : List ℕ) (r : ℤ) (h' e' : List ℕ) (k : ℕ) → Does L f h e r h' e'
-    → on L f h e .turn .code ≡ negsuc k → (r ≡ negsuc k) × (h' ≡ h) × (e' ≡ e)
-unchanged L f h e r h' e' k d o =
-    let c : r ≡ negsuc k = d .code ∙ o in
-    let p : (h' ≡ h) × (e' ≡ e) = rw c at (d .kept) in
-    (c, p .0, p .1)
-
--- operations with the same outcome do the same
-pub alike : {N : Type 0} (L : Layout N) (f g : N → List ℕ → Out N) (h e : List ℕ) (r : ℤ) (h' e' : List ℕ) → on L f h e ≡ on L g h e → Does L f h e r h' e' → Does L g h e r h' e'
-alike L f g h e r h' e' o d =
-    record {
-      code = rw o at (d .code);
-      num = rw o at (d .num);
-      queue = rw o at (d .queue);
-      kept = d .kept;
-      beside = d .beside;
-      rest = d .rest;
-      long = d .long;
-    }
+      again : (y : Reply (List ℕ)) → queued (L .num h) y ≡ carry {S = Object N} (λ (z : N × List ℕ). record { num = z .0; queue = z .1 }) (withFirst (L .num h) y)
+      again (refuse c) = refl
+      again (accept q c o) = refl
 
 -- what an operation leaves, read off in memory
-pub shown : {N : Type 0} (L : Layout N) (f : N → List ℕ → Out N) (P : ℤ → N → List ℕ → Type 0) (h e : List ℕ) (r : ℤ) (h' e' : List ℕ) → Does L f h e r h' e' → Housed L h e
-    → P (f (L .num h) (waiting e (getD h (L .len) 0)) .turn .code) (f (L .num h) (waiting e (getD h (L .len) 0)) .num) (f (L .num h) (waiting e (getD h (L .len) 0)) .turn .queue)
+pub shown : {N : Type 0} (L : Layout N) (f : Object N → Reply (Object N)) (P : ℤ → N → List ℕ → Type 0) (h e : List ℕ) (r : ℤ) (h' e' : List ℕ)
+    → Did (standing L) f h e r h' e' → Housed L h e
+    → P (answer (f (standing L .object h e))) (left (f (standing L .object h e)) (standing L .object h e) .num) (left (f (standing L .object h e)) (standing L .object h e) .queue)
     → P r (L .num h') (waiting e' (getD h' (L .len) 0))
 shown {N} L f P h e r h' e' d m p =
-    let q = is-on L f h e m in
-    rw (d .code ∙ ap (λ (x : Out N). x .turn .code) q, d .num ∙ ap (λ (x : Out N). x .num) q, d .queue ∙ ap (λ (x : Out N). x .turn .queue) q) p
+    let q = done (standing L) f h e (housed-formed L h e m) d .1 in
+    rw (answers (standing L) f h e d (housed-formed L h e m), ap (λ (x : Object N). x .num) q, ap (λ (x : Object N). x .queue) q) p
 
 -- a queue in memory has somebody exactly if its length is not 0
 pub any-waiting : (e : List ℕ) (n : ℕ) → any (waiting e n) ≡ ltb 0 n
@@ -148,37 +123,37 @@ pub record Sane (K : Kind) (L : Layout (K .Num)) (h e : List ℕ) : Type 0 where
 
 module _ (K : Kind) (L : Layout (K .Num)) (h e : List ℕ) where
   pub is-sane : sane K L h e ≡ true → Sane K L h e
-  is-sane s = go (leb (L .words) (length h)) (roomy (getD h (L .len) 0) e) refl refl s
+  is-sane s = go (leb (suc (L .len)) (length h)) (roomy (getD h (L .len) 0) e) refl refl s
     where
-      go : (a b : Bool) → leb (L .words) (length h) ≡ a → roomy (getD h (L .len) 0) e ≡ b
+      go : (a b : Bool) → leb (suc (L .len)) (length h) ≡ a → roomy (getD h (L .len) 0) e ≡ b
           → cond a (cond b (K .formed (L .num h) (ltb 0 (getD h (L .len) 0))) false) false ≡ true → Sane K L h e
-      go true true x y z = record { housed = record { words = leb-true (L .words) (length h) x; room = y }; numbers = z }
+      go true true x y z = record { housed = record { words = leb-true (suc (L .len)) (length h) x; room = y }; numbers = z }
       go true false x y z = clash (sym z)
       go false b x y z = clash (sym z)
 
   -- by the room, then by what the words hold
-  pub unsized : sized (L .words) h e ≡ false → sane K L h e ≡ false
-  unsized s = go (leb (L .words) (length h)) (roomy (getD h (L .len) 0) e) refl refl s
+  pub unsized : sized (suc (L .len)) h e ≡ false → sane K L h e ≡ false
+  unsized s = go (leb (suc (L .len)) (length h)) (roomy (getD h (L .len) 0) e) refl refl s
     where
       none : roomy 0 e ≡ false → roomy (getD h (L .len) 0) e ≡ true → true ≡ false
       none x y = sym (roomy-zero (getD h (L .len) 0) e y) ∙ x
 
-      go : (a b : Bool) → leb (L .words) (length h) ≡ a → roomy (getD h (L .len) 0) e ≡ b → cond a (roomy 0 e) false ≡ false
+      go : (a b : Bool) → leb (suc (L .len)) (length h) ≡ a → roomy (getD h (L .len) 0) e ≡ b → cond a (roomy 0 e) false ≡ false
           → cond a (cond b (K .formed (L .num h) (ltb 0 (getD h (L .len) 0))) false) false ≡ false
       go true true x y z = clash (none z y)
       go true false x y z = refl
       go false b x y z = refl
 
-  module _ (s : sized (L .words) h e ≡ true) where
-    pub sized-words : L .words ≤ length h
-    sized-words = go (leb (L .words) (length h)) refl s
+  module _ (s : sized (suc (L .len)) h e ≡ true) where
+    pub sized-words : suc (L .len) ≤ length h
+    sized-words = go (leb (suc (L .len)) (length h)) refl s
       where
-        go : (a : Bool) → leb (L .words) (length h) ≡ a → cond a (roomy 0 e) false ≡ true → L .words ≤ length h
-        go true x z = leb-true (L .words) (length h) x
+        go : (a : Bool) → leb (suc (L .len)) (length h) ≡ a → cond a (roomy 0 e) false ≡ true → suc (L .len) ≤ length h
+        go true x z = leb-true (suc (L .len)) (length h) x
         go false x z = clash (sym z)
 
     sized-room : roomy 0 e ≡ true
-    sized-room = go (leb (L .words) (length h)) s
+    sized-room = go (leb (suc (L .len)) (length h)) s
       where
         go : (a : Bool) → cond a (roomy 0 e) false ≡ true → roomy 0 e ≡ true
         go true z = z
@@ -186,37 +161,38 @@ module _ (K : Kind) (L : Layout (K .Num)) (h e : List ℕ) where
 
     -- nobody waits
     pub idle-sane : getD h (L .len) 0 ≡ 0 → K .formed (L .num h) false ≡ true → sane K L h e ≡ true
-    idle-sane z f = rw (le-leb (L .words) (length h) sized-words, z, sized-room, f)
+    idle-sane z f = rw (le-leb (suc (L .len)) (length h) sized-words, z, sized-room, f)
 
     -- the numbers are not as they should be
     pub misnumbered : K .formed (L .num h) (ltb 0 (getD h (L .len) 0)) ≡ false → sane K L h e ≡ false
-    misnumbered f = rw (le-leb (L .words) (length h) sized-words, f) (cond-same (roomy (getD h (L .len) 0) e) false)
+    misnumbered f = rw (le-leb (suc (L .len)) (length h) sized-words, f) (cond-same (roomy (getD h (L .len) 0) e) false)
 
     pub roomy-sane : roomy (getD h (L .len) 0) e ≡ true → K .formed (L .num h) (ltb 0 (getD h (L .len) 0)) ≡ true → sane K L h e ≡ true
-    roomy-sane r f = rw (le-leb (L .words) (length h) sized-words, r, f)
+    roomy-sane r f = rw (le-leb (suc (L .len)) (length h) sized-words, r, f)
 
   pub formed-queue : Sane K L h e → K .formed (L .num h) (any (waiting e (getD h (L .len) 0))) ≡ true
   formed-queue m = rw (any-waiting e (getD h (L .len) 0)) (m .numbers)
 
-  -- any operation refuses an object that is not
-  pub malformed : (f : K .Num → List ℕ → Out (K .Num))
-      → ((n : K .Num) (q : List ℕ) → K .formed n (any q) ≡ false → f n q ≡ refused einval n q)
-      → sane K L h e ≡ false → on L f h e ≡ refused einval (L .num h) (waiting e (getD h (L .len) 0))
-  malformed f r s = go (leb (L .words) (length h)) (roomy (getD h (L .len) 0) e) refl refl s
+  pub unfine : standing L .formed h e ≡ true → sane K L h e ≡ false → fine K (standing L .object h e) ≡ false
+  unfine f s = go (leb (suc (L .len)) (length h)) (roomy (getD h (L .len) 0) e) f s
     where
-      go : (a b : Bool) → leb (L .words) (length h) ≡ a → roomy (getD h (L .len) 0) e ≡ b
+      go : (a b : Bool) → cond a b false ≡ true → cond a (cond b (K .formed (L .num h) (ltb 0 (getD h (L .len) 0))) false) false ≡ false
+          → K .formed (L .num h) (any (waiting e (getD h (L .len) 0))) ≡ false
+      go true true x z = rw (any-waiting e (getD h (L .len) 0)) z
+      go true false x z = clash (sym x)
+      go false b x z = clash (sym x)
+
+  -- any operation that tests the numbers refuses an object that is not
+  pub malformed : (f : Object (K .Num) → Reply (Object (K .Num))) → ((s : Object (K .Num)) → fine K s ≡ false → f s ≡ refuse einval)
+      → sane K L h e ≡ false → reply (standing L) f h e ≡ refuse einval
+  malformed f r s = go (leb (suc (L .len)) (length h)) (roomy (getD h (L .len) 0) e) refl refl s
+    where
+      go : (a b : Bool) → leb (suc (L .len)) (length h) ≡ a → roomy (getD h (L .len) 0) e ≡ b
           → cond a (cond b (K .formed (L .num h) (ltb 0 (getD h (L .len) 0))) false) false ≡ false
-          → cond a (cond b (f (L .num h) (waiting e (getD h (L .len) 0))) (refused einval (L .num h) (waiting e (getD h (L .len) 0)))) (refused einval (L .num h) (waiting e (getD h (L .len) 0)))
-          ≡ refused einval (L .num h) (waiting e (getD h (L .len) 0))
-      go true true x y z = r (L .num h) (waiting e (getD h (L .len) 0)) (rw (any-waiting e (getD h (L .len) 0)) z)
+          → cond (cond a b false) (f (standing L .object h e)) (refuse einval) ≡ refuse einval
+      go true true x y z = r (standing L .object h e) (rw (fine, any-waiting e (getD h (L .len) 0)) z)
       go true false x y z = refl
       go false b x y z = refl
-
-  -- and every word stays
-  pub barred : (f : K .Num → List ℕ → Out (K .Num)) (r : ℤ) (h' e' : List ℕ)
-      → ((n : K .Num) (q : List ℕ) → K .formed n (any q) ≡ false → f n q ≡ refused einval n q)
-      → sane K L h e ≡ false → Does L f h e r h' e' → (r ≡ einval) × (h' ≡ h) × (e' ≡ e)
-  barred f r h' e' k s d = unchanged L f h e r h' e' 21 d (ap (λ (o : Out (K .Num)). o .turn .code) (malformed f k s))
 
   -- the audit: of the numbers, then of the queue
   pub audit-insane : sane K L h e ≡ false → Audited K L h e false

@@ -9,7 +9,7 @@ use Rattle.seq.specs.List.{any, chosen, others, All, Sub}
 use Rattle.seq.proofs.Order.{clash}
 use Rattle.seq.proofs.Sub.{sub-none, sub-drop, others-sub}
 use Rattle.wait_queue.specs.Queue.{prio, joined}
-use Rattle.kind.specs.Verdict.{Pick, upTo, everybody, those, gone, left}
+use Rattle.kind.specs.Verdict.{Pick, upTo, everybody, those, gone, spared}
 use Rattle.kind.specs.Kind.{itself}
 
 -- what holds of every thread holds of all that wait
@@ -33,10 +33,10 @@ pub any-map : (f : ℕ → ℕ) (q : List ℕ) → any (map f q) ≡ any q
 any-map f [] = refl
 any-map f (x ∷ q) = refl
 
-pub left-sub : (f : ℕ → ℕ) (p : Pick) (q : List ℕ) → Sub (left f p q) q
-left-sub f (upTo n) q = sub-drop n q
-left-sub f everybody q = sub-none q
-left-sub f (those t) q = others-sub (λ x. t (f x)) q
+pub spared-sub : (f : ℕ → ℕ) (p : Pick) (q : List ℕ) → Sub (spared f p q) q
+spared-sub f (upTo n) q = sub-drop n q
+spared-sub f everybody q = sub-none q
+spared-sub f (those t) q = others-sub (λ x. t (f x)) q
 
 drop-map : (f : ℕ → ℕ) (n : ℕ) (q : List ℕ) → drop n (map f q) ≡ map f (drop n q)
 drop-map f zero q = refl
@@ -67,10 +67,10 @@ chosen-map f t (x ∷ q) = go (t (f x)) (chosen-map f t q)
     go false ih = ih
 
 -- to pick of the entries and to pick of their threads is the same
-pub left-map : (f : ℕ → ℕ) (p : Pick) (q : List ℕ) → left itself p (map f q) ≡ map f (left f p q)
-left-map f (upTo n) q = drop-map f n q
-left-map f everybody q = refl
-left-map f (those t) q = others-map f t q
+pub spared-map : (f : ℕ → ℕ) (p : Pick) (q : List ℕ) → spared itself p (map f q) ≡ map f (spared f p q)
+spared-map f (upTo n) q = drop-map f n q
+spared-map f everybody q = refl
+spared-map f (those t) q = others-map f t q
 
 pub gone-map : (f : ℕ → ℕ) (p : Pick) (q : List ℕ) → gone itself p (map f q) ≡ map f (gone f p q)
 gone-map f (upTo n) q = take-map f n q

@@ -2,7 +2,7 @@
 use mathlib.Core.Path.{_≡_, sym, subst}
 use Prim.Native.Nat.{ℕ}
 use lib.IntN.{ℤ, pos, negsuc}
-use Rattle.wait_queue.specs.Post.{Refused}
+use Rattle.store.specs.Store.{Refused}
 
 -- an answer of 0 or more is none
 pub served : (P : Type 0) (n : ℕ) (r : ℤ) → r ≡ pos n → Refused r P

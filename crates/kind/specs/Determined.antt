@@ -3,15 +3,15 @@
 use mathlib.Core.Path.{_≡_}
 use mathlib.Core.Bool.{Bool}
 use mathlib.Core.List.{List}
-use Prim.Native.Nat.{ℕ}
+use Prim.Native.Nat.{ℕ, suc}
 use lib.ListN.{getD}
 use Rattle.seq.specs.Only.{Only, Alike}
 use Rattle.kind.specs.Object.{Layout}
 use Rattle.kind.specs.Post.{SaysHoused}
 
 -- an object's numbers and the length of its queue tell each of the header's own words
-abbrev pub Faithful : {N : Type 0} → Layout N → Type 0
-Faithful L = (h h' : List ℕ) → L .num h ≡ L .num h' → getD h (L .len) 0 ≡ getD h' (L .len) 0 → Alike (L .words) h h'
+abbrev pub Legible : {N : Type 0} → Layout N → Type 0
+Legible L = (h h' : List ℕ) → L .num h ≡ L .num h' → getD h (L .len) 0 ≡ getD h' (L .len) 0 → Alike (suc (L .len)) h h'
 
 pub record Determined : Type 0 where
   pub housed : (words : ℕ) (h e : List ℕ) → Only (λ (r : Bool). SaysHoused words h e r)

@@ -5,15 +5,13 @@ use mathlib.Core.List.{List, [], _∷_, _++_}
 use Prim.Native.Nat.{ℕ, _<_, _≤_}
 use lib.Dec.{eqb}
 use lib.ListN.{length}
-use Rattle.seq.specs.List.{any, chosen, Sorted, Sub}
+use Rattle.seq.specs.List.{chosen, Sorted, Sub}
+use Rattle.store.specs.Store.{Reply, left}
+use Rattle.store.specs.History.{after}
 use Rattle.wait_queue.specs.Queue.{maxWaiters, entry, prio, ident, holds, NoLower, Single, Well}
 use Rattle.wait_queue.specs.Turn.{remove}
 use Rattle.kind.specs.Kind.{Kind}
-use Rattle.kind.specs.Object.{Out, named, thread, call}
-
-pub record Object (N : Type 0) : Type 0 where
-  pub num : N
-  pub queue : List ℕ
+use Rattle.kind.specs.Object.{Object, queued, named, thread, fine, call}
 
 -- what can happen to an object: a call by the thread i, which cannot wait in it; a call in which it can; its time is over and it
 -- leaves. Ids are 32-bit numbers
@@ -30,17 +28,17 @@ abbrev pub stays : List ℕ → ℕ → Bool
 stays q x = holds (ident x) q
 
 module _ (K : Kind) (v : ℕ → K .Wish) where
-  abbrev pub happens : Object (K .Num) → Event (K .Call) → Out (K .Num)
-  happens s (calls i k) = call K v (named i) k (s .num) (s .queue)
-  happens s (asks i p st h k) = call K v (thread i p st) k (s .num) (s .queue)
-  happens s (leaves i) = record { num = s .num; turn = remove i (s .queue) }
+  abbrev pub happens : Object (K .Num) → Event (K .Call) → Reply (Object (K .Num))
+  happens s (calls i k) = call K v (named i) k s
+  happens s (asks i p st h k) = call K v (thread i p st) k s
+  happens s (leaves i) = queued (s .num) (remove i (s .queue))
 
   abbrev pub next : Object (K .Num) → Event (K .Call) → Object (K .Num)
-  next s x = record { num = happens s x .num; queue = happens s x .turn .queue }
+  next s x = left (happens s x) s
 
+  -- after these events, of which the last stands first
   abbrev pub run : Object (K .Num) → List (Event (K .Call)) → Object (K .Num)
-  run s [] = s
-  run s (x ∷ xs) = run (next s x) xs
+  run = after next
 
   -- the entry of the caller, if it is in the queue after the event and was not before
   abbrev pub came : Object (K .Num) → Event (K .Call) → List ℕ
@@ -52,16 +50,16 @@ module _ (K : Kind) (v : ℕ → K .Wish) where
   -- all that began to wait, in the order of time
   abbrev pub arrivals : Object (K .Num) → List (Event (K .Call)) → List ℕ
   arrivals s [] = []
-  arrivals s (x ∷ xs) = came s x ++ arrivals (next s x) xs
+  arrivals s (x ∷ past) = arrivals s past ++ came (run s past) x
 
   -- the line of those that wait, by arrival alone: who is no longer in the queue is out of it, and who begins to wait is its last
-  abbrev pub line : Object (K .Num) → List (Event (K .Call)) → List ℕ → List ℕ
-  line s [] l = l
-  line s (x ∷ xs) l = line (next s x) xs (chosen (stays (next s x .queue)) l ++ came s x)
+  abbrev pub line : Object (K .Num) → List (Event (K .Call)) → List ℕ
+  line s [] = s .queue
+  line s (x ∷ past) = chosen (stays (run s (x ∷ past) .queue)) (line s past) ++ came (run s past) x
 
   -- an object as it should be: in particular nobody waits with numbers with which nobody waits
   pub record Good (s : Object (K .Num)) : Type 0 where
-    pub numbers : K .formed (s .num) (any (s .queue)) ≡ true
+    pub numbers : fine K s ≡ true
     pub queue : Well (s .queue)
 
   -- what the queue of an object promises after any events
@@ -75,7 +73,7 @@ module _ (K : Kind) (v : ℕ → K .Wish) where
     -- threads of one priority stand in the order of their arrival
     pub stable : (p : ℕ) → Sub (chosen (of-priority p) (run s xs .queue)) (chosen (of-priority p) (s .queue ++ arrivals s xs))
     -- also a thread that left and came again: it stands where it came last
-    pub order : (p : ℕ) → chosen (of-priority p) (run s xs .queue) ≡ chosen (of-priority p) (line s xs (s .queue))
+    pub order : (p : ℕ) → chosen (of-priority p) (run s xs .queue) ≡ chosen (of-priority p) (line s xs)
 
   -- after any events the object is as it should be, and so is the order of its queue
   pub record Lasting (s : Object (K .Num)) (xs : List (Event (K .Call))) : Type 0 where

@@ -8,7 +8,7 @@ use lib.IntN.{ℤ, pos, negsuc}
 use Rattle.seq.specs.List.{any, All}
 use Rattle.thread.specs.Code.{einval}
 use Rattle.wait_queue.specs.Turn.{waits}
-use Rattle.kind.specs.Verdict.{gone, left, keep, park, wake, Verdict, deny, allow}
+use Rattle.kind.specs.Verdict.{gone, spared, keep, park, wake, Verdict, deny, allow}
 
 -- what the books say: the numbers are these now; or no object can have given that answer
 pub data Balance (N : Type 0) : Type 0 where
@@ -63,14 +63,14 @@ abbrev pub Sound : (K : Kind) → List ℕ → Verdict (K .Num) (K .Wish) → Ty
 Sound K q (deny r) = Unit {0}
 Sound K q (allow n keep r) = K .formed n (any q) ≡ true
 Sound K q (allow n (park x) r) = K .formed n true ≡ true
-Sound K q (allow n (wake p f) r) = K .formed n (any (left itself p q)) ≡ true
+Sound K q (allow n (wake p f) r) = K .formed n (any (spared itself p q)) ≡ true
 
 -- a verdict on the call k of the thread w leaves nobody waiting for what is there, and pays what it owes
 abbrev pub Right : (K : Kind) → (ℕ → K .Wish) → List ℕ → ℕ → K .Call → Verdict (K .Num) (K .Wish) → Type 0
 Right K v q w k (deny r) = Unit {0}
 Right K v q w k (allow n keep r) = Rightly K n v q
 Right K v q w k (allow n (park x) r) = K .Blocked n w x × Rightly K n v q
-Right K v q w k (allow n (wake p f) r) = Rightly K n v (left itself p q) × All (λ t. K .Owes k (v t) (f t)) (gone itself p q)
+Right K v q w k (allow n (wake p f) r) = Rightly K n v (spared itself p q) × All (λ t. K .Owes k (v t) (f t)) (gone itself p q)
 
 -- a verdict on the call k of the thread w leaves what the books say, and a refusal's code is below 0
 abbrev pub Booked : (K : Kind) → K .Num → List ℕ → ℕ → K .Call → Verdict (K .Num) (K .Wish) → Type 0

@@ -18,10 +18,10 @@ gone name (upTo n) q = take n q
 gone name everybody q = q
 gone name (those f) q = chosen (λ x. f (name x)) q
 
-abbrev pub left : (ℕ → ℕ) → Pick → List ℕ → List ℕ
-left name (upTo n) q = drop n q
-left name everybody q = []
-left name (those f) q = others (λ x. f (name x)) q
+abbrev pub spared : (ℕ → ℕ) → Pick → List ℕ → List ℕ
+spared name (upTo n) q = drop n q
+spared name everybody q = []
+spared name (those f) q = others (λ x. f (name x)) q
 
 -- what a call does to the queue: nothing; the caller waits, with its wish; some are woken, each with its result
 pub data Act (W : Type 0) : Type 0 where
@@ -35,6 +35,6 @@ pub data Verdict (N W : Type 0) : Type 0 where
   allow : N → Act W → ℤ → Verdict N W
 
 -- the answer alone
-abbrev pub answer : {N W : Type 0} → Verdict N W → ℤ
-answer (deny r) = r
-answer (allow n a r) = r
+abbrev pub ruling : {N W : Type 0} → Verdict N W → ℤ
+ruling (deny r) = r
+ruling (allow n a r) = r
