@@ -7,7 +7,6 @@ use lib.Dec.{leb}
 use lib.IntN.{ℤ}
 use lib.ListN.{length, getD, take, take-append-drop}
 use Rattle.seq.specs.Only.{Only, Alike}
-use Rattle.seq.proofs.Order.{clash}
 use Rattle.seq.proofs.Only.{said, exactly, alike-only}
 use Rattle.thread.specs.Code.{ok, einval}
 use Rattle.store.specs.Store.{Reply, refuse, accept, reply, Becomes, After, Did}
@@ -19,14 +18,11 @@ use Rattle.wait_queue.proofs.Memory.{blank, blank-roomy}
 use Rattle.kind.specs.Kind.{Kind}
 use Rattle.kind.specs.Object.{Object, Layout, standing, Opened, Audited}
 use Rattle.kind.specs.Determined.{Legible, Determined}
+use Rattle.kind.proofs.Memory.{is-housed}
 
 module _ {N : Type 0} (L : Layout N) where
   its-room : (h e : List ℕ) → standing L .formed h e ≡ true → roomy (getD h (L .len) 0) e ≡ true
-  its-room h e f = go (leb (suc (L .len)) (length h)) f
-    where
-      go : (a : Bool) → cond a (roomy (getD h (L .len) 0) e) false ≡ true → roomy (getD h (L .len) 0) e ≡ true
-      go true z = z
-      go false z = clash (sym z)
+  its-room h e f = is-housed L h e f .room
 
   its-length : (h h' e e' : List ℕ) → standing L .object h e ≡ standing L .object h' e' → getD h (L .len) 0 ≡ getD h' (L .len) 0
   its-length h h' e e' q = same-length e e' (getD h (L .len) 0) (getD h' (L .len) 0) (ap (λ (x : Object N). x .queue) q)

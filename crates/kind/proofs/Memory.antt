@@ -50,6 +50,13 @@ module _ {N : Type 0} (L : Layout N) (h e : List ℕ) where
   pub housed-formed : Housed L h e → standing L .formed h e ≡ true
   housed-formed m = rw (le-leb (suc (L .len)) (length h) (m .words)) (m .room)
 
+  pub is-housed : standing L .formed h e ≡ true → Housed L h e
+  is-housed f = go (leb (suc (L .len)) (length h)) refl f
+    where
+      go : (b : Bool) → leb (suc (L .len)) (length h) ≡ b → cond b (roomy (getD h (L .len) 0) e) false ≡ true → Housed L h e
+      go true x z = record { words = leb-true (suc (L .len)) (length h) x; room = z }
+      go false x z = clash (sym z)
+
   -- the numbers n and the queue q are left
   pub left-so : (n : N) (m : ℕ) (q h' e' : List ℕ) → suc (L .len) ≤ length h → Header L h n m h' → roomy m e' ≡ true → waiting e' m ≡ q → drop m e' ≡ drop m e
       → length e' ≡ length e → Becomes (standing L) (record { num = n; queue = q }) h e h' e'

@@ -72,13 +72,15 @@ Right K v q w k (allow n keep r) = Rightly K n v q
 Right K v q w k (allow n (park x) r) = K .Blocked n w x × Rightly K n v q
 Right K v q w k (allow n (wake p f) r) = Rightly K n v (spared itself p q) × All (λ t. K .Owes k (v t) (f t)) (gone itself p q)
 
--- a verdict on the call k of the thread w leaves what the books say, and a refusal's code is below 0
+-- a verdict on the call k of the thread w leaves what the books say; a refusal's code is below 0, and no other answer is
 abbrev pub Booked : (K : Kind) → K .Num → List ℕ → ℕ → K .Call → Verdict (K .Num) (K .Wish) → Type 0
 Booked K n q w k (deny (pos r)) = ⊥
 Booked K n q w k (deny (negsuc r)) = Unit {0}
-Booked K n q w k (allow m keep r) = K .books n w k r [] ≡ balanced m
+Booked K n q w k (allow m keep (negsuc r)) = ⊥
+Booked K n q w k (allow m keep (pos r)) = K .books n w k (pos r) [] ≡ balanced m
 Booked K n q w k (allow m (park x) r) = K .books n w k waits [] ≡ balanced m
-Booked K n q w k (allow m (wake p f) r) = K .books n w k r (gone itself p q) ≡ balanced m
+Booked K n q w k (allow m (wake p f) (negsuc r)) = ⊥
+Booked K n q w k (allow m (wake p f) (pos r)) = K .books n w k (pos r) (gone itself p q) ≡ balanced m
 
 -- all that a kind has to prove
 pub record Lawful (K : Kind) : Type 0 where

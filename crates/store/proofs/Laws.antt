@@ -10,7 +10,7 @@ use lib.ListN.{length}
 use Rattle.seq.specs.List.{any}
 pub use Rattle.seq.proofs.Order.{both-true}
 use Rattle.thread.specs.Code.{ok, einval}
-use Rattle.store.specs.Store.{Reply, refuse, accept, answer, out, carry, Decided, Place, reply, Becomes, After, Did, looks, Filled, first, Fills, Hands, Started}
+use Rattle.store.specs.Store.{Reply, refuse, accept, answer, left, out, carry, Decided, Place, reply, Becomes, After, Did, looks, Filled, first, Fills, Hands, Started}
 
 pub any-some : {A : Type 0} (l : List A) → 0 < length l → any l ≡ true
 any-some [] f = absurd (omega arith)
@@ -111,6 +111,14 @@ module _ {S : Type 0} (P : Place S) (f : S → Reply S) (h b : List ℕ) where
 pub carry-out : {N S : Type 0} (f : N → S) (y : Reply N) → out (carry f y) ≡ out y
 carry-out f (refuse r) = refl
 carry-out f (accept n r o) = refl
+
+pub carry-answer : {N S : Type 0} (f : N → S) (y : Reply N) → answer (carry f y) ≡ answer y
+carry-answer f (refuse r) = refl
+carry-answer f (accept n r o) = refl
+
+pub carry-left : {N S : Type 0} (f : N → S) (y : Reply N) (n : N) → left (carry f y) (f n) ≡ f (left y n)
+carry-left f (refuse r) n = refl
+carry-left f (accept m r o) n = refl
 
 -- operations with the same reply do the same
 pub did-alike : {S : Type 0} (P : Place S) (f g : S → Reply S) (h b : List ℕ) {r : ℤ} {h' b' : List ℕ} → reply P f h b ≡ reply P g h b → Did P f h b r h' b'

@@ -56,6 +56,13 @@ abbrev pub Allowed : ℤ → Type 0 → Type 0
 Allowed (pos n) P = P
 Allowed (negsuc n) P = Unit {0}
 
+-- a refusal is answered below 0, and nothing else is
+abbrev pub Signed : {S : Type 0} → Reply S → Type 0
+Signed (refuse (pos c)) = ⊥
+Signed (refuse (negsuc c)) = Unit {0}
+Signed (accept s (pos c) o) = Unit {0}
+Signed (accept s (negsuc c) o) = ⊥
+
 -- a number that is the decision's, and stays if that is a refusal
 abbrev pub settled : {N : Type 0} → (N → ℕ) → Reply N → ℕ → ℕ
 settled f (refuse r) x = x

@@ -105,8 +105,8 @@ module _ {K : Kind} (turn : Turnwise K) (s : Sys K) (g : Fine s) (i o : ℕ) (k 
       go (those y) f h l = absurd f
 
   by-verdict : (d : Verdict (K .Num) (K .Wish)) (n : K .Num) → InTurn d
-      → unless (carried (thread i (s .prio i) 1) d n q .turn .code) s (serve s i o d (carried (thread i (s .prio i) 1) d n q)) .state t ≡ ready r
-      → unless (carried (thread i (s .prio i) 1) d n q .turn .code) s (serve s i o d (carried (thread i (s .prio i) 1) d n q)) .state u ≡ waiting x → R t u
+      → unless (store.answer (carried (thread i (s .prio i) 1) d (thing s o n))) s (serve s i o d (store.left (carried (thread i (s .prio i) 1) d (thing s o n)) (thing s o n))) .state t ≡ ready r
+      → unless (store.answer (carried (thread i (s .prio i) 1) d (thing s o n))) s (serve s i o d (store.left (carried (thread i (s .prio i) 1) d (thing s o n)) (thing s o n))) .state u ≡ waiting x → R t u
   by-verdict (deny (negsuc c)) n f h l = never (sym a ∙ h)
   by-verdict (deny (pos c)) n f h l = never (sym a ∙ h)
   by-verdict (allow m keep (negsuc c)) n f h l = never (sym a ∙ h)

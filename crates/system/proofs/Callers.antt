@@ -13,8 +13,7 @@ use Rattle.wait_queue.specs.Post.{Told, Listed}
 use Rattle.kind.specs.Verdict.{keep, park, wake, Verdict, deny, allow}
 use Rattle.kind.specs.Kind.{Kind, Lawful}
 use Rattle.kind.specs.Object as object
-use Rattle.kind.specs.Object.{Out, named, thread, carried, call, handed, Layout, on, Does}
-use Rattle.kind.specs.Post.{Tells, Lists}
+use Rattle.kind.specs.Object.{Object, named, thread, carried, call, Layout, standing}
 use Rattle.system.specs.Part.{Part}
 use Rattle.system.specs.System.{absent, running, number, Sys, outcome, verdict, called}
 use Rattle.system.specs.Rules.{Fine}
@@ -27,17 +26,17 @@ use Rattle.system.proofs.Readied.{call-readies}
 use Rattle.system.proofs.Fates.{Unparked, Fated, stays-fated, fated-part, caller-fate}
 use Rattle.system.proofs.Link.{tells, gives, leaves, in-none, in-word, read-all}
 
-carried-named : {N W : Type 0} (i p st j : ℕ) (d : Verdict N W) (n : N) (q : List ℕ) → Unparked d → carried (thread i p st) d n q ≡ carried (named j) d n q
-carried-named i p st j (deny r) n q x = refl
-carried-named i p st j (allow m keep r) n q x = refl
-carried-named i p st j (allow m (park y) r) n q x = absurd x
-carried-named i p st j (allow m (wake y f) r) n q x = refl
+carried-named : {N W : Type 0} (i p st j : ℕ) (d : Verdict N W) (s : Object N) → Unparked d → carried (thread i p st) d s ≡ carried (named j) d s
+carried-named i p st j (deny r) s x = refl
+carried-named i p st j (allow m keep r) s x = refl
+carried-named i p st j (allow m (park y) r) s x = absurd x
+carried-named i p st j (allow m (wake y f) r) s x = refl
 
 -- then a call by a name is that of the thread which runs
-call-named : (A : Kind) (v : ℕ → A .Wish) (i p j : ℕ) (k : A .Call) (n : A .Num) (q : List ℕ) → valid p ≡ true
-    → A .decide n v (map ident q) i k ≡ A .decide n v (map ident q) j k → Unparked (A .decide n v (map ident q) j k)
-    → call A v (thread i p 1) k n q ≡ call A v (named j) k n q
-call-named A v i p j k n q z x y = rw (z, x, carried-named i p 1 j (A .decide n v (map ident q) j k) n q y)
+call-named : (A : Kind) (v : ℕ → A .Wish) (i p j : ℕ) (k : A .Call) (s : Object (A .Num)) → valid p ≡ true
+    → A .decide (s .num) v (map ident (s .queue)) i k ≡ A .decide (s .num) v (map ident (s .queue)) j k → Unparked (A .decide (s .num) v (map ident (s .queue)) j k)
+    → call A v (thread i p 1) k s ≡ call A v (named j) k s
+call-named A v i p j k s z x y = rw (z, x, carried-named i p 1 j (A .decide (s .num) v (map ident (s .queue)) j k) s y)
 
 -- a thread that runs has a priority that there is
 runs-valid : {K : Kind} (s : Sys K) → Fine s → (i : ℕ) → s .state i ≡ running → valid (s .prio i) ≡ true
@@ -56,22 +55,25 @@ module _ {A K : Kind} (law : Lawful K) (P : Part A K) (fits : Fits P) (L : Layou
   abbrev q : List ℕ
   q = s .queue o
 
+  abbrev ob : Object (A .Num)
+  ob = record { num = n; queue = q }
+
   abbrev v : ℕ → A .Wish
   v t = P .seen (s .wish t)
 
-  abbrev Same : (A .Num → List ℕ → Out (A .Num)) → Type 0
-  Same f = outcome s i o (P .call k) (P .num n) ≡ wrapped (P .num) (f n q)
+  abbrev Same : (Object (A .Num) → Reply (Object (A .Num))) → Type 0
+  Same f = outcome s i o (P .call k) (P .num n) ≡ wrapped (P .num) (f (record { num = n; queue = q }))
 
   -- what f does to the memory, and whom it hands out; the entries may be only read
-  abbrev Did : (A .Num → List ℕ → Out (A .Num)) → Type 0
-  Did f = Does L f (u .before .header) (u .before .entries) (u .answer) (u .after .header) (u .after .entries)
+  abbrev Done : (Object (A .Num) → Reply (Object (A .Num))) → Type 0
+  Done f = Did (standing L) f (u .before .header) (u .before .entries) (u .answer) (u .after .header) (u .after .entries)
 
-  abbrev given : (A .Num → List ℕ → Out (A .Num)) → List ℕ
-  given f = on L f (u .before .header) (u .before .entries) .turn .woken
+  abbrev given : (Object (A .Num) → Reply (Object (A .Num))) → List ℕ
+  given f = out (reply (standing L) f (u .before .header) (u .before .entries))
 
-  reads : (f : A .Num → List ℕ → Out (A .Num)) → Does L f (u .before .header) (u .before .entries) (u .answer) (u .after .header) (u .before .entries)
-      → u .after .entries ≡ u .before .entries → Did f
-  reads f d z = subst (λ (x : List ℕ). Does L f (u .before .header) (u .before .entries) (u .answer) (u .after .header) x) (sym z) d
+  reads : (f : Object (A .Num) → Reply (Object (A .Num))) → Did (standing L) f (u .before .header) (u .before .entries) (u .answer) (u .after .header) (u .before .entries)
+      → u .after .entries ≡ u .before .entries → Done f
+  reads f d z = subst (λ (x : List ℕ). Did (standing L) f (u .before .header) (u .before .entries) (u .answer) (u .after .header) x) (sym z) d
 
   module _ (few : Within m c q (A .decide n v (map ident q) i k)) where
     whole : Within m c q (verdict s i o (P .call k) (P .num n))
@@ -80,7 +82,7 @@ module _ {A K : Kind} (law : Lawful K) (P : Part A K) (fits : Fits P) (L : Layou
     at-most : length (called s i o (P .call k) .2) ≤ m (length q)
     at-most = handed-few s g i o (P .call k) (P .num n) (is .slot) m c whole
 
-    module _ (a : Bool) (fates : Fated a (A .decide n v (map ident q) i k)) (f : A .Num → List ℕ → Out (A .Num)) (same : Same f) (d : Did f) where
+    module _ (a : Bool) (fates : Fated a (A .decide n v (map ident q) i k)) (f : Object (A .Num) → Reply (Object (A .Num))) (same : Same f) (d : Done f) where
       abbrev h : List ℕ
       h = u .before .header
 
@@ -90,7 +92,7 @@ module _ {A K : Kind} (law : Lawful K) (P : Part A K) (fits : Fits P) (L : Layou
       words : given f ≡ map word (called s i o (P .call k) .2)
       words = gives law L (P .num) s g i o (P .call k) f h e is same m c whole
 
-      stepped : (Listed (map word (called s i o (P .call k) .2)) (u .lent) (u .filled)) → Steps L (P .num) s i o (P .call k) a c u
+      stepped : Filled (map word (called s i o (P .call k) .2)) (u .lent) (u .filled) → Steps L (P .num) s i o (P .call k) a c u
       stepped x =
           let code : u .answer ≡ called s i o (P .call k) .1 = d .code ∙ sym (tells law L (P .num) s g i o (P .call k) f h e is same) in
           record {
@@ -113,25 +115,25 @@ module _ {A K : Kind} (law : Lawful K) (P : Part A K) (fits : Fits P) (L : Layou
       pub silent : m (length q) ≤ 0 → u .lent ≡ [] → u .filled ≡ [] → Steps L (P .num) s i o (P .call k) a c u
       silent z a b = stepped (in-none (called s i o (P .call k) .2) (u .lent) (u .filled) a b (omega (arith, at-most, z)))
 
-      pub in-a-word : m (length q) ≤ 1 → (w w' : ℕ) → u .lent ≡ w ∷ [] → u .filled ≡ w' ∷ [] → Told (given f) w w'
+      pub in-a-word : m (length q) ≤ 1 → (w w' : ℕ) → u .lent ≡ w ∷ [] → u .filled ≡ w' ∷ [] → w' ≡ first w (given f)
           → Steps L (P .num) s i o (P .call k) a c u
       in-a-word z w w' a b t =
           stepped (in-word (called s i o (P .call k) .2) w w' (u .lent) (u .filled) a b (omega (arith, at-most, z))
-          (subst (λ (y : List ℕ). Told y w w') words t))
+          (subst (λ (y : List ℕ). w' ≡ first w y) words t))
 
-      pub in-a-slice : Listed (given f) (u .lent) (u .filled) → Steps L (P .num) s i o (P .call k) a c u
-      in-a-slice x = stepped (subst (λ (y : List ℕ). Listed y (u .lent) (u .filled)) words x)
+      pub in-a-slice : Filled (given f) (u .lent) (u .filled) → Steps L (P .num) s i o (P .call k) a c u
+      in-a-slice x = stepped (subst (λ (y : List ℕ). Filled y (u .lent) (u .filled)) words x)
 
     -- the function is told the thread's numbers
     as-thread : Truthful s i u → Same (call A v (thread (u .id) (u .priority) (u .state)) k)
     as-thread t =
-        call-part P fits (s .wish) (thread i (s .prio i) (number (s .state i))) k n q
-        ∙ ap (λ (w : object.Caller). wrapped (P .num) (call A v w k n q))
+        call-part P fits (s .wish) (thread i (s .prio i) (number (s .state i))) k ob
+        ∙ ap (λ (w : object.Caller). wrapped (P .num) (call A v w k ob))
         (let x : thread i (s .prio i) (number (s .state i)) ≡ thread (u .id) (u .priority) (u .state) =
         cc in x)
 
     pub by-thread : Fated true (A .decide n v (map ident q) i k) → Truthful s i u → m (length q) ≤ 0
-        → Did (call A v (thread (u .id) (u .priority) (u .state)) k) → u .lent ≡ [] → u .filled ≡ [] → Steps L (P .num) s i o (P .call k) true c u
+        → Done (call A v (thread (u .id) (u .priority) (u .state)) k) → u .lent ≡ [] → u .filled ≡ [] → Steps L (P .num) s i o (P .call k) true c u
     by-thread y t z d = silent true y _ (as-thread t) d z
 
     -- it is told a name at most, and a thread that runs calls it
@@ -143,29 +145,28 @@ module _ {A K : Kind} (law : Lawful K) (P : Part A K) (fits : Fits P) (L : Layou
       as-named : Same (call A v (named j) k)
       as-named =
           rw run
-          (call-part P fits (s .wish) (thread i (s .prio i) 1) k n q ∙ ap (wrapped (P .num))
-          (call-named A v i (s .prio i) j k n q (runs-valid s g i run) same stays))
+          (call-part P fits (s .wish) (thread i (s .prio i) 1) k ob ∙ ap (wrapped (P .num))
+          (call-named A v i (s .prio i) j k ob (runs-valid s g i run) same stays))
 
-      pub by-name : m (length q) ≤ 0 → Does L (call A v (named j) k) (u .before .header) (u .before .entries) (u .answer) (u .after .header) (u .before .entries)
+      pub by-name : m (length q) ≤ 0 → Did (standing L) (call A v (named j) k) (u .before .header) (u .before .entries) (u .answer) (u .after .header) (u .before .entries)
           → u .after .entries ≡ u .before .entries → u .lent ≡ [] → u .filled ≡ [] → Steps L (P .num) s i o (P .call k) false c u
       by-name z d e = silent false fates _ as-named (reads _ d e) z
 
       pub by-word : m (length q) ≤ 1 → (w w' : ℕ)
-          → Tells L (call A v (named j) k) (u .before .header) (u .before .entries) w (u .answer) (u .after .header) w'
+          → Hands (standing L) (call A v (named j) k) (u .before .header) (u .before .entries) w (u .answer) (u .after .header) w'
           → u .after .entries ≡ u .before .entries → u .lent ≡ w ∷ [] → u .filled ≡ w' ∷ [] → Steps L (P .num) s i o (P .call k) false c u
       by-word z w w' d e a b = in-a-word false fates _ as-named (reads _ (d .0) e) z w w' a b (d .1)
 
       -- there is room for all that are woken
-      as-handed : m (length q) ≤ length (u .lent) → Same (handed (length (u .lent)) (call A v (named j) k))
+      as-handed : m (length q) ≤ length (u .lent) → Same (fitting (length (u .lent)) (call A v (named j) k))
       as-handed l =
-          let e : outcome s i o (P .call k) (P .num n) .turn .woken ≡ call A v (named j) k n q .turn .woken = ap
-          (λ (y : Out (K .Num)). y .turn .woken) as-named in
+          let e : out (outcome s i o (P .call k) (P .num n)) ≡ out (call A v (named j) k ob) = ap out as-named ∙ carry-out _ (call A v (named j) k ob) in
           let w = handed-out s g i o (P .call k) (P .num n) (is .slot) m c whole in
-          let c : length (call A v (named j) k n q .turn .woken) ≤ length (u .lent) =
+          let c : length (out (call A v (named j) k ob)) ≤ length (u .lent) =
           omega (arith, l, at-most, ap length (sym e ∙ w), length-map (called s i o (P .call k) .2) word) in
-          as-named ∙ ap (wrapped (P .num)) (rw (le-leb (length (call A v (named j) k n q .turn .woken)) (length (u .lent)) c) refl)
+          as-named ∙ ap (wrapped (P .num)) (rw (le-leb (length (out (call A v (named j) k ob))) (length (u .lent)) c) refl)
 
       pub by-slice : m (length q) ≤ length (u .lent)
-          → Lists L (handed (length (u .lent)) (call A v (named j) k)) (u .before .header) (u .before .entries) (u .lent) (u .answer) (u .after .header) (u .filled)
+          → Fills (standing L) (fitting (length (u .lent)) (call A v (named j) k)) (u .before .header) (u .before .entries) (u .lent) (u .answer) (u .after .header) (u .filled)
           → u .after .entries ≡ u .before .entries → Steps L (P .num) s i o (P .call k) false c u
       by-slice l d e = in-a-slice false fates _ (as-handed l) (reads _ (d .0) e) (d .1)

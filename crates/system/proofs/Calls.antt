@@ -17,11 +17,12 @@ use Rattle.wait_queue.specs.Queue.{maxWaiters, entry, prio, ident, holds, joine
 use Rattle.wait_queue.proofs.Answers.{ident-entry}
 use Rattle.wait_queue.proofs.Insertion.{prio-entry}
 use Rattle.wait_queue.proofs.Well.{Other, holds-none, well-sub, well-joined}
-use Rattle.kind.specs.Verdict.{Pick, gone, left, keep, park, wake, Verdict, deny, allow}
+use Rattle.kind.specs.Verdict.{Pick, gone, spared, keep, park, wake, Verdict, deny, allow}
 use Rattle.kind.specs.Kind.{Kind, Lawful, Rightly, Sound, Right}
-use Rattle.kind.specs.Object.{Out, refused, thread, carried}
-use Rattle.kind.proofs.Picks.{any-joined, any-map, left-sub, left-map}
-use Rattle.system.specs.System.{State, absent, running, ready, waiting, number, Slot, vacant, object, Sys, upd, states, unless, serve, outcome, verdict, visited, called}
+use Rattle.store.specs.Store as store
+use Rattle.kind.specs.Object.{Object, thread, carried}
+use Rattle.kind.proofs.Picks.{any-joined, any-map, spared-sub, spared-map}
+use Rattle.system.specs.System.{State, absent, running, ready, waiting, number, Slot, vacant, object, Sys, upd, states, unless, serve, thing, outcome, verdict, visited, called}
 use Rattle.system.specs.Rules.{times, on, Fine}
 use Rattle.system.proofs.Times.{times-joined, times-pick, held, unheld, not-held, on-is, on-one, all-list, list-all, distinct}
 
@@ -37,13 +38,13 @@ full h = absurd (let x : _≡_ {A = ℕ} 0 1 = cc in omega arith)
 
 module _ {K : Kind} (s : Sys K) (g : Fine s) (i o : ℕ) (n : K .Num) (h : s .slot o ≡ object n) where
   -- one object changes: the rules hold if they hold of it, and of the states everywhere
-  module _ (d : Verdict (K .Num) (K .Wish)) (u : Out (K .Num))
-      (here : (t : ℕ) → times t (u .turn .queue) ≡ on o (serve s i o d u .state t))
+  module _ (d : Verdict (K .Num) (K .Wish)) (u : Object (K .Num))
+      (here : (t : ℕ) → times t (u .queue) ≡ on o (serve s i o d u .state t))
       (there : (x t : ℕ) → (o ≡ x → ⊥) → times t (s .queue x) ≡ on x (serve s i o d u .state t))
-      (right : Rightly K (u .num) (serve s i o d u .wish) (map ident (u .turn .queue)))
+      (right : Rightly K (u .num) (serve s i o d u .wish) (map ident (u .queue)))
       (rights : (x : ℕ) (m : K .Num) → s .slot x ≡ object m → (o ≡ x → ⊥) → Rightly K m (serve s i o d u .wish) (map ident (s .queue x)))
-      (form : K .formed (u .num) (any (u .turn .queue)) ≡ true) (well : Well (u .turn .queue))
-      (own : All (λ x. x ≡ entry (s .prio (ident x)) (ident x)) (u .turn .queue))
+      (form : K .formed (u .num) (any (u .queue)) ≡ true) (well : Well (u .queue))
+      (own : All (λ x. x ≡ entry (s .prio (ident x)) (ident x)) (u .queue))
       (known : (t : ℕ) → (serve s i o d u .state t ≡ absent → ⊥) → s .state t ≡ absent → ⊥) where
     changed : Fine (serve s i o d u)
     changed =
@@ -57,29 +58,29 @@ module _ {K : Kind} (s : Sys K) (g : Fine s) (i o : ℕ) (n : K .Num) (h : s .sl
           known = λ t z. g .known t (known t z);
         }
       where
-        at-place : (x t : ℕ) (b : Bool) → eqb o x ≡ b → times t (cond b (u .turn .queue) (s .queue x)) ≡ on x (serve s i o d u .state t)
+        at-place : (x t : ℕ) (b : Bool) → eqb o x ≡ b → times t (cond b (u .queue) (s .queue x)) ≡ on x (serve s i o d u .state t)
         at-place x t true e = rw (sym (eqb-true o x e)) (here t)
         at-place x t false e = there x t (eqb-false o x e)
 
         at-kept : (x : ℕ) (m : K .Num) (b : Bool) → eqb o x ≡ b → cond b (object (u .num)) (s .slot x) ≡ object m
-            → Rightly K m (serve s i o d u .wish) (map ident (cond b (u .turn .queue) (s .queue x)))
+            → Rightly K m (serve s i o d u .wish) (map ident (cond b (u .queue) (s .queue x)))
         at-kept x m true e z = rw (sym (object-is z)) right
         at-kept x m false e z = rights x m z (eqb-false o x e)
 
         at-form : (x : ℕ) (m : K .Num) (b : Bool) → eqb o x ≡ b → cond b (object (u .num)) (s .slot x) ≡ object m
-            → K .formed m (any (cond b (u .turn .queue) (s .queue x))) ≡ true
+            → K .formed m (any (cond b (u .queue) (s .queue x))) ≡ true
         at-form x m true e z = rw (sym (object-is z)) form
         at-form x m false e z = g .formed x m z
 
-        at-bare : (x : ℕ) (b : Bool) → eqb o x ≡ b → cond b (object (u .num)) (s .slot x) ≡ vacant → cond b (u .turn .queue) (s .queue x) ≡ []
+        at-bare : (x : ℕ) (b : Bool) → eqb o x ≡ b → cond b (object (u .num)) (s .slot x) ≡ vacant → cond b (u .queue) (s .queue x) ≡ []
         at-bare x true e z = full z
         at-bare x false e z = g .bare x z
 
-        at-queue : (x : ℕ) (b : Bool) → eqb o x ≡ b → Well (cond b (u .turn .queue) (s .queue x))
+        at-queue : (x : ℕ) (b : Bool) → eqb o x ≡ b → Well (cond b (u .queue) (s .queue x))
         at-queue x true e = well
         at-queue x false e = g .queues x
 
-        at-own : (x : ℕ) (b : Bool) → eqb o x ≡ b → All (λ y. y ≡ entry (s .prio (ident y)) (ident y)) (cond b (u .turn .queue) (s .queue x))
+        at-own : (x : ℕ) (b : Bool) → eqb o x ≡ b → All (λ y. y ≡ entry (s .prio (ident y)) (ident y)) (cond b (u .queue) (s .queue x))
         at-own x true e = own
         at-own x false e = g .own x
 
@@ -91,9 +92,9 @@ module _ {K : Kind} (s : Sys K) (g : Fine s) (i o : ℕ) (n : K .Num) (h : s .sl
 
   -- nobody joins and nobody is woken
   stays : (m : K .Num) (r : ℤ) → K .formed m (any q) ≡ true → Rightly K m (s .wish) (map ident q)
-      → Fine (serve s i o (allow m keep r) (carried {W = K .Wish} (thread i (s .prio i) 1) (allow m keep r) n q))
+      → Fine (serve s i o (allow m keep r) (store.left (carried {W = K .Wish} (thread i (s .prio i) 1) (allow m keep r) (thing s o n)) (thing s o n)))
   stays m r f k =
-      changed (allow m keep r) (carried {W = K .Wish} (thread i (s .prio i) 1) (allow m keep r) n q) (λ t. g .placed o t)
+      changed (allow m keep r) (store.left (carried {W = K .Wish} (thread i (s .prio i) 1) (allow m keep r) (thing s o n)) (thing s o n)) (λ t. g .placed o t)
       (λ x t e. g .placed x t) k elsewhere f (g .queues o) (g .own o)
       (λ t z. z)
 
@@ -106,7 +107,7 @@ module _ {K : Kind} (s : Sys K) (g : Fine s) (i o : ℕ) (n : K .Num) (h : s .sl
     abbrev now : ℕ → State
     now = states {W = K .Wish} (wake p f) i o q (s .state)
 
-    here-woken : (t : ℕ) (b : Bool) → holds t (gone ident p q) ≡ b → times t (left ident p q) ≡ on o (now t)
+    here-woken : (t : ℕ) (b : Bool) → holds t (gone ident p q) ≡ b → times t (spared ident p q) ≡ on o (now t)
     here-woken t true z = rw z (omega (arith, held t (gone ident p q) z, times-pick t p q, g .placed o t, on-one o (s .state t)))
     here-woken t false z = rw z (omega (arith, unheld t (gone ident p q) z, times-pick t p q, g .placed o t))
 
@@ -122,12 +123,12 @@ module _ {K : Kind} (s : Sys K) (g : Fine s) (i o : ℕ) (n : K .Num) (h : s .sl
     known-woken t true z c = λ a. let v : waiting o ≡ absent = sym (waited t z) ∙ a in absurd (let x : _≡_ {A = ℕ} 0 1 = cc in omega arith)
     known-woken t false z c = rw z at c
 
-    wakes : K .formed m (any (left ident p q)) ≡ true → Rightly K m (s .wish) (map ident (left ident p q))
-        → Fine (serve s i o some (carried (thread i (s .prio i) 1) some n q))
+    wakes : K .formed m (any (spared ident p q)) ≡ true → Rightly K m (s .wish) (map ident (spared ident p q))
+        → Fine (serve s i o some (store.left (carried (thread i (s .prio i) 1) some (thing s o n)) (thing s o n)))
     wakes c k =
-        changed some (carried (thread i (s .prio i) 1) some n q) (λ t. here-woken t (holds t (gone ident p q)) refl)
+        changed some (store.left (carried (thread i (s .prio i) 1) some (thing s o n)) (thing s o n)) (λ t. here-woken t (holds t (gone ident p q)) refl)
         (λ x t e. there-woken x t e (holds t (gone ident p q)) refl) k elsewhere c
-        (well-sub (left-sub ident p q) (g .queues o)) (sub-holds _ (left-sub ident p q) (g .own o)) (λ t z. known-woken t (holds t (gone ident p q)) refl z)
+        (well-sub (spared-sub ident p q) (g .queues o)) (sub-holds _ (spared-sub ident p q) (g .own o)) (λ t z. known-woken t (holds t (gone ident p q)) refl z)
 
   -- the caller waits
   module _ (x : K .Wish) (m : K .Num) (r : ℤ) (run : s .state i ≡ running) (few : length q < maxWaiters) where
@@ -137,8 +138,8 @@ module _ {K : Kind} (s : Sys K) (g : Fine s) (i o : ℕ) (n : K .Num) (h : s .sl
     abbrev wait : Verdict (K .Num) (K .Wish)
     wait = allow m (park x) r
 
-    abbrev joins : Out (K .Num)
-    joins = record { num = m; turn = record { code = pos 1; queue = joined w q; woken = [] } }
+    abbrev joins : Object (K .Num)
+    joins = record { num = m; queue = joined w q }
 
     there-is : s .state i ≡ absent → ⊥
     there-is a = let v : running ≡ absent = sym run ∙ a in absurd (let y : _≡_ {A = ℕ} 0 1 = cc in omega arith)
@@ -186,30 +187,30 @@ module _ {K : Kind} (s : Sys K) (g : Fine s) (i o : ℕ) (n : K .Num) (h : s .sl
 
   -- a verdict
   pub by-verdict : (law : Lawful K) (k : K .Call) → s .state i ≡ running
-      → Fine (unless (carried (thread i (s .prio i) 1) (K .decide n (s .wish) (map ident q) i k) n q .turn .code) s
-      (serve s i o (K .decide n (s .wish) (map ident q) i k) (carried (thread i (s .prio i) 1) (K .decide n (s .wish) (map ident q) i k) n q)))
+      → Fine (unless (store.answer (carried (thread i (s .prio i) 1) (K .decide n (s .wish) (map ident q) i k) (thing s o n))) s
+      (serve s i o (K .decide n (s .wish) (map ident q) i k) (store.left (carried (thread i (s .prio i) 1) (K .decide n (s .wish) (map ident q) i k) (thing s o n)) (thing s o n))))
   by-verdict law k run =
       let f : K .formed n (any (map ident q)) ≡ true = rw (any-map ident q) (g .formed o n h) in
       go (K .decide n (s .wish) (map ident q) i k) (law .sound n (s .wish) (map ident q) i k f)
       (law .right n (s .wish) (map ident q) i k f (distinct q (g .queues o .single)) (g .kept o n h))
     where
       go : (d : Verdict (K .Num) (K .Wish)) → Sound K (map ident q) d → Right K (s .wish) (map ident q) i k d
-          → Fine (unless (carried (thread i (s .prio i) 1) d n q .turn .code) s (serve s i o d (carried (thread i (s .prio i) 1) d n q)))
+          → Fine (unless (store.answer (carried (thread i (s .prio i) 1) d (thing s o n))) s (serve s i o d (store.left (carried (thread i (s .prio i) 1) d (thing s o n)) (thing s o n))))
       go (deny (negsuc c)) a b = g
       go (deny (pos c)) a b =
-          changed (deny (pos c)) (carried {W = K .Wish} (thread i (s .prio i) 1) (deny (pos c)) n q) (λ t. g .placed o t) (λ x t e. g .placed x t)
+          changed (deny (pos c)) (store.left (carried {W = K .Wish} (thread i (s .prio i) 1) (deny (pos c)) (thing s o n)) (thing s o n)) (λ t. g .placed o t) (λ x t e. g .placed x t)
           (g .kept o n h) elsewhere (g .formed o n h) (g .queues o) (g .own o)
           (λ t z. z)
       go (allow m keep (negsuc c)) a b = g
       go (allow m keep (pos c)) a b = stays m (pos c) (rw (any-map ident q) at a) b
       go (allow m (wake p r) (negsuc c)) a b = g
       go (allow m (wake p r) (pos c)) a b =
-          wakes p r m (pos c) (rw (left-map ident p q, any-map ident (left ident p q)) at a) (rw (left-map ident p q) at (b .0))
+          wakes p r m (pos c) (rw (spared-map ident p q, any-map ident (spared ident p q)) at a) (rw (spared-map ident p q) at (b .0))
       go (allow m (park x) c) a b = parks (holds (ident (entry (s .prio i) i)) q) (ltb (length q) maxWaiters) refl refl
         where
           parks : (j l : Bool) → holds (ident (entry (s .prio i) i)) q ≡ j → ltb (length q) maxWaiters ≡ l
-              → Fine (unless (carried (thread i (s .prio i) 1) (allow m (park x) c) n q .turn .code) s
-              (serve s i o (allow m (park x) c) (carried (thread i (s .prio i) 1) (allow m (park x) c) n q)))
+              → Fine (unless (store.answer (carried (thread i (s .prio i) 1) (allow m (park x) c) (thing s o n))) s
+              (serve s i o (allow m (park x) c) (store.left (carried (thread i (s .prio i) 1) (allow m (park x) c) (thing s o n)) (thing s o n))))
           parks true l y z = rw y g
           parks false true y z = rw (y, z) (waits x m c run (ltb-true (length q) maxWaiters z) a (b .0) (b .1))
           parks false false y z = rw (y, z) g
@@ -235,12 +236,12 @@ runs p (waiting o) c z = never (valid p) z
 
 module _ {K : Kind} (s : Sys K) (i o : ℕ) (k : K .Call) (n : K .Num) (f : K .formed n (any (s .queue o)) ≡ true) where
   -- a caller that does not run is refused
-  pub barred : (c : ℕ) → callerCode (s .prio i) (number (s .state i)) ≡ negsuc c → outcome s i o k n ≡ refused (negsuc c) n (s .queue o)
+  pub barred : (c : ℕ) → callerCode (s .prio i) (number (s .state i)) ≡ negsuc c → outcome s i o k n ≡ store.refuse (negsuc c)
   barred c z = rw (f, z)
 
   -- and one that runs gets what the object decides
   pub granted : (c : ℕ) → callerCode (s .prio i) (number (s .state i)) ≡ pos c
-      → outcome s i o k n ≡ carried (thread i (s .prio i) 1) (verdict s i o k n) n (s .queue o)
+      → outcome s i o k n ≡ carried (thread i (s .prio i) 1) (verdict s i o k n) (thing s o n)
   granted c z =
       let r : s .state i ≡ running = runs (s .prio i) (s .state i) c z in
       let y : callerCode (s .prio i) 1 ≡ pos c = rw r at z in

@@ -16,8 +16,9 @@ use Rattle.wait_queue.proofs.Answers.{ident-entry}
 use Rattle.wait_queue.proofs.Insertion.{prio-entry}
 use Rattle.kind.specs.Verdict.{upTo, everybody, keep, park, wake, Verdict, deny, allow}
 use Rattle.kind.specs.Kind.{Kind}
-use Rattle.kind.specs.Object.{Out, refused, thread, carried}
-use Rattle.system.specs.System.{State, absent, running, ready, waiting, Slot, object, Sys, invoke, Answer, done, reply, Woken, upd, deed, woken, unless, serve, outcome, verdict, visited, called, step}
+use Rattle.store.specs.Store as store
+use Rattle.kind.specs.Object.{Object, thread, carried}
+use Rattle.system.specs.System.{State, absent, running, ready, waiting, Slot, object, Sys, invoke, Answer, done, reply, Woken, upd, deed, woken, unless, serve, thing, outcome, verdict, visited, called, step}
 use Rattle.system.specs.Rules.{on, Fine}
 use Rattle.system.specs.Effect.{Effect, is-now, has-wish, all-ready, has-numbers, has-queue, freed, put, puts, Place, woke, Does, Denies, Fails, Waits}
 use Rattle.system.proofs.Times.{held, unheld, not-held, on-is}
@@ -51,32 +52,32 @@ freed-off o r (waiting y) h = go (eqb y o) h
 
 -- a call that is refused
 pub barring : {K : Kind} (s : Sys K) (i o : ℕ) (k : K .Call) (n : K .Num) → s .slot o ≡ object n → (c : ℕ)
-    → outcome s i o k n ≡ refused (negsuc c) n (s .queue o)
+    → outcome s i o k n ≡ store.refuse (negsuc c)
     → Denies step s (invoke i o k) (negsuc c)
 barring {K} s i o k n h c e = λ j. (p j, reply (q j), w j)
   where
     p : called s i o k .0 ≡ s
     p =
         ap (λ (x : Slot (K .Num)). visited x s i o k .0) h
-        ∙ ap (λ (u : Out (K .Num)). unless (u .turn .code) s (serve s i o (verdict s i o k n) u)) e
+        ∙ ap (λ (y : store.Reply (Object (K .Num))). unless (store.answer y) s (serve s i o (verdict s i o k n) (store.left y (thing s o n)))) e
 
     q : called s i o k .1 ≡ negsuc c
-    q = ap (λ (x : Slot (K .Num)). visited x s i o k .1) h ∙ ap (λ (u : Out (K .Num)). u .turn .code) e
+    q = ap (λ (x : Slot (K .Num)). visited x s i o k .1) h ∙ ap store.answer e
 
     w : called s i o k .2 ≡ []
     w =
         ap (λ (x : Slot (K .Num)). visited x s i o k .2) h
-        ∙ ap (λ (u : Out (K .Num)). unless (u .turn .code) [] (woken (deed (verdict s i o k n)) (s .queue o))) e
+        ∙ ap (λ (y : store.Reply (Object (K .Num))). unless (store.answer y) [] (woken (deed (verdict s i o k n)) (s .queue o))) e
 
 -- a call of the thread i, which runs, by what the object decides
 module _ {K : Kind} (s : Sys K) (g : Fine s) (i o : ℕ) (k : K .Call) (n : K .Num) (h : s .slot o ≡ object n) (r : s .state i ≡ running) where
-  abbrev left : Verdict (K .Num) (K .Wish) → Out (K .Num)
-  left d = carried (thread i (s .prio i) 1) d n (s .queue o)
+  abbrev given : Verdict (K .Num) (K .Wish) → store.Reply (Object (K .Num))
+  given d = carried (thread i (s .prio i) 1) d (thing s o n)
 
-  tells-whom : (d : Verdict (K .Num) (K .Wish)) (c : ℕ) → verdict s i o k n ≡ d → left d .turn .code ≡ pos c → called s i o k .2 ≡ woken (deed d) (s .queue o)
+  tells-whom : (d : Verdict (K .Num) (K .Wish)) (c : ℕ) → verdict s i o k n ≡ d → store.answer (given d) ≡ pos c → called s i o k .2 ≡ woken (deed d) (s .queue o)
   tells-whom d c y z = rw (h, decided s g i o k n h r d y, y, z)
 
-  by : (d : Verdict (K .Num) (K .Wish)) (c : ℕ) (es : List (Effect K)) → verdict s i o k n ≡ d → left d .turn .code ≡ pos c → serve s i o d (left d) ≡ puts s es
+  by : (d : Verdict (K .Num) (K .Wish)) (c : ℕ) (es : List (Effect K)) → verdict s i o k n ≡ d → store.answer (given d) ≡ pos c → serve s i o d (store.left (given d) (thing s o n)) ≡ puts s es
       → Does step s (invoke i o k) (done (pos c)) es (woken (deed d) (s .queue o))
   by d c es y z e = λ j. ((served s g i o k n h r d c y z ∙ e) j, reply ((answered s g i o k n h r d y ∙ z) j), tells-whom d c y z j)
 
@@ -135,7 +136,7 @@ module _ {K : Kind} (s : Sys K) (g : Fine s) (i o : ℕ) (k : K .Call) (n : K .N
     off = rw (ident-entry (s .prio i) i (g .known i (there s g i o k n h r) .0)) (not-held i (s .queue o) (g .placed o i ∙ rw r))
 
     seats : length (s .queue o) < maxWaiters
-        → left (allow n (park w) c) ≡ record { num = n; turn = record { code = pos 1; queue = joined (entry (s .prio i) i) (s .queue o); woken = [] } }
+        → given (allow n (park w) c) ≡ store.accept (record { num = n; queue = joined (entry (s .prio i) i) (s .queue o) }) (pos 1) []
     seats l = rw (off, lt-ltb (length (s .queue o)) maxWaiters l)
 
     spot : Found (entry (s .prio i) i) (s .queue o)
@@ -169,8 +170,8 @@ module _ {K : Kind} (s : Sys K) (g : Fine s) (i o : ℕ) (k : K .Call) (n : K .N
           room = λ l. place;
           joins =
               λ l.
-              by (allow n (park w) c) 1 es y (ap (λ (u : Out (K .Num)). u .turn .code) (seats l))
-              (ap (serve s i o (allow n (park w) c)) (seats l)
+              by (allow n (park w) c) 1 es y (ap store.answer (seats l))
+              (ap (λ (y : store.Reply (Object (K .Num))). serve s i o (allow n (park w) c) (store.left y (thing s o n))) (seats l)
               ∙ same _ (puts s es) (λ t. refl) (λ t. refl) (λ t. refl) (upd-same (s .slot) o (object n) h)
               (λ t. ap (λ (l : List ℕ). upd (s .queue) o l t) (spot .is)));
         }

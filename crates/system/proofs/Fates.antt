@@ -8,7 +8,8 @@ use lib.IntN.{ℤ, pos, negsuc}
 use lib.ListN.{length}
 use Rattle.kind.specs.Verdict.{gone, keep, park, wake, Verdict, deny, allow}
 use Rattle.kind.specs.Kind.{Kind}
-use Rattle.kind.specs.Object.{Out, thread, carried}
+use Rattle.store.specs.Store as store
+use Rattle.kind.specs.Object.{Object, thread, carried}
 use Rattle.system.specs.System as system
 use Rattle.system.specs.Rules.{times, Fine}
 use Rattle.system.proofs.Times.{times-pick, not-held}
@@ -64,19 +65,19 @@ fated-part f g a (allow n (wake p h) r) x = x
 parked-fate : (a : Bool) (o w : ℕ) (q : List ℕ) (x y : State) → a ≡ true → y ≡ waiting o → unless (parked w q .code) x y ≡ fate a o (parked w q .code) x
 parked-fate a o w q x y e z = go (holds (ident w) q) (ltb (length q) maxWaiters)
   where
-    go : (b c : Bool) → unless (cond b (refuse ebusy q) (cond c (record { code = waits; queue = joined w q; woken = [] }) (refuse enomem q)) .code) x y
-        ≡ fate a o (cond b (refuse ebusy q) (cond c (record { code = waits; queue = joined w q; woken = [] }) (refuse enomem q)) .code) x
+    go : (b c : Bool) → unless (store.answer (cond b (store.refuse ebusy) (cond c (store.accept (joined w q) waits []) (store.refuse enomem)))) x y
+        ≡ fate a o (store.answer (cond b (store.refuse ebusy) (cond c (store.accept (joined w q) waits []) (store.refuse enomem)))) x
     go true c = refl
     go false true = rw (z, e) refl
     go false false = refl
 
 -- the caller's state after a call
 module _ {K : Kind} (s : Sys K) (g : Fine s) (i o : ℕ) (k : K .Call) (n : K .Num) (h : s .slot o ≡ system.object n) (a : Bool) where
-  abbrev out : Verdict (K .Num) (K .Wish) → Out (K .Num)
-  out d = carried (thread i (s .prio i) 1) d n (s .queue o)
+  abbrev given : Verdict (K .Num) (K .Wish) → store.Reply (Object (K .Num))
+  given d = carried (thread i (s .prio i) 1) d (thing s o n)
 
   told-fate : s .state i ≡ running → (d : Verdict (K .Num) (K .Wish)) → Fated a d
-      → unless (out d .turn .code) (s .state i) (states (deed d) i o (s .queue o) (s .state) i) ≡ fate a o (out d .turn .code) (s .state i)
+      → unless (store.answer (given d)) (s .state i) (states (deed d) i o (s .queue o) (s .state) i) ≡ fate a o (store.answer (given d)) (s .state i)
   told-fate run (deny (pos r)) x = sym (x o (s .state i))
   told-fate run (deny (negsuc r)) x = refl
   told-fate run (allow m keep (pos r)) x = sym (x o (s .state i))
@@ -91,16 +92,16 @@ module _ {K : Kind} (s : Sys K) (g : Fine s) (i o : ℕ) (k : K .Call) (n : K .N
   pub caller-fate : Fated a (verdict s i o k n) → called s i o k .0 .state i ≡ fate a o (called s i o k .1) (s .state i)
   caller-fate x =
       subst (λ (y : Slot (K .Num)). visited y s i o k .0 .state i ≡ fate a o (visited y s i o k .1) (s .state i)) (sym h)
-      (apart (outcome s i o k n .turn .code) ∙ go (callerCode (s .prio i) (number (s .state i))) refl)
+      (apart (store.answer (outcome s i o k n)) ∙ go (callerCode (s .prio i) (number (s .state i))) refl)
     where
-      apart : (z : ℤ) → unless z s (serve s i o (verdict s i o k n) (outcome s i o k n)) .state i
+      apart : (z : ℤ) → unless z s (serve s i o (verdict s i o k n) (store.left (outcome s i o k n) (thing s o n))) .state i
           ≡ unless z (s .state i) (states (deed (verdict s i o k n)) i o (s .queue o) (s .state) i)
       apart (pos c) = refl
       apart (negsuc c) = refl
 
       go : (z : ℤ) → callerCode (s .prio i) (number (s .state i)) ≡ z
-          → unless (outcome s i o k n .turn .code) (s .state i) (states (deed (verdict s i o k n)) i o (s .queue o) (s .state) i)
-          ≡ fate a o (outcome s i o k n .turn .code) (s .state i)
+          → unless (store.answer (outcome s i o k n)) (s .state i) (states (deed (verdict s i o k n)) i o (s .queue o) (s .state) i)
+          ≡ fate a o (store.answer (outcome s i o k n)) (s .state i)
       go (negsuc c) z = rw (barred s i o k n (g .formed o n h) c z) refl
       go (pos c) z = rw (granted s i o k n (g .formed o n h) c z) (told-fate (runs (s .prio i) (s .state i) c z) (verdict s i o k n) x)
 
@@ -115,8 +116,8 @@ module _ {K : Kind} (s : Sys K) (g : Fine s) (i o : ℕ) (k : K .Call) (run : s 
       rw (not-held i (gone ident p (s .queue o)) (omega (arith, z, times-pick i p (s .queue o))))
 
   pub still : (n : K .Num) → s .slot o ≡ system.object n → Unparked (verdict s i o k n) → called s i o k .0 .state i ≡ s .state i
-  still n h x = rw h (by (outcome s i o k n .turn .code))
+  still n h x = rw h (by (store.answer (outcome s i o k n)))
     where
-      by : (z : ℤ) → unless z s (serve s i o (verdict s i o k n) (outcome s i o k n)) .state i ≡ s .state i
+      by : (z : ℤ) → unless z s (serve s i o (verdict s i o k n) (store.left (outcome s i o k n) (thing s o n))) .state i ≡ s .state i
       by (pos c) = states-same (verdict s i o k n) x
       by (negsuc c) = refl

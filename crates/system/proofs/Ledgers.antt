@@ -12,7 +12,8 @@ use Rattle.thread.specs.Caller.{callerCode}
 use Rattle.wait_queue.specs.Queue.{maxWaiters, entry, ident, holds}
 use Rattle.kind.specs.Verdict.{gone, keep, park, wake, Verdict, deny, allow}
 use Rattle.kind.specs.Kind.{Kind, Lawful, Booked, balanced}
-use Rattle.kind.specs.Object.{Out, thread, carried}
+use Rattle.store.specs.Store as store
+use Rattle.kind.specs.Object.{Object, thread, carried}
 use Rattle.kind.proofs.Picks.{any-map, gone-map}
 use Rattle.system.specs.System.{number, Slot, vacant, object, Sys, Op, invoke, both, dispatch, yield, expire, spawn, create, Woken, Reply, reply, accept, refuse, free, deed, woken, unless, serve, outcome, verdict, visited, called, placed, answers, paired, step, after}
 use Rattle.system.specs.Rules.{Fine, Start}
@@ -44,24 +45,24 @@ module _ {K : Kind} (law : Lawful K) (s : Sys K) (g : Fine s) (i o : ℕ) (k : K
     q = s .queue o
 
     by-verdict : (z : s .slot o ≡ object n) (d : Verdict (K .Num) (K .Wish)) → Booked K n (map ident q) i k d
-        → unless (carried (thread i (s .prio i) 1) d n q .turn .code) s (serve s i o d (carried (thread i (s .prio i) 1) d n q)) .slot o
-        ≡ ledger (note (carried (thread i (s .prio i) 1) d n q .turn .code)
-        (unless (carried (thread i (s .prio i) 1) d n q .turn .code) [] (woken (deed d) q)) ++ l)
+        → unless (store.answer (carried (thread i (s .prio i) 1) d (thing s o n))) s (serve s i o d (store.left (carried (thread i (s .prio i) 1) d (thing s o n)) (thing s o n))) .slot o
+        ≡ ledger (note (store.answer (carried (thread i (s .prio i) 1) d (thing s o n)))
+        (unless (store.answer (carried (thread i (s .prio i) 1) d (thing s o n))) [] (woken (deed d) q)) ++ l)
     by-verdict z (deny (pos c)) b = absurd b
     by-verdict z (deny (negsuc c)) b = z ∙ h
-    by-verdict z (allow m keep (negsuc c)) b = z ∙ h
+    by-verdict z (allow m keep (negsuc c)) b = absurd b
     by-verdict z (allow m keep (pos c)) b = rw (eq-eqb o o refl) (posted m c [] b)
-    by-verdict z (allow m (wake p f) (negsuc c)) b = z ∙ h
+    by-verdict z (allow m (wake p f) (negsuc c)) b = absurd b
     by-verdict z (allow m (wake p f) (pos c)) b =
         rw (eq-eqb o o refl)
         (posted m c (woken {W = K .Wish} (wake p f) q) (ap (K .books n i k (pos c)) (names-of f (gone ident p q) ∙ sym (gone-map ident p q)) ∙ b))
     by-verdict z (allow m (park x) c) b = go (holds (ident (entry (s .prio i) i)) q) (ltb (length q) maxWaiters) refl refl
       where
         go : (y w : Bool) → holds (ident (entry (s .prio i) i)) q ≡ y → ltb (length q) maxWaiters ≡ w
-            → unless (carried (thread i (s .prio i) 1) (allow m (park x) c) n q .turn .code) s
-            (serve s i o (allow m (park x) c) (carried (thread i (s .prio i) 1) (allow m (park x) c) n q)) .slot o
-            ≡ ledger (note (carried (thread i (s .prio i) 1) (allow m (park x) c) n q .turn .code)
-            (unless (carried (thread i (s .prio i) 1) (allow m (park x) c) n q .turn .code) [] []) ++ l)
+            → unless (store.answer (carried (thread i (s .prio i) 1) (allow m (park x) c) (thing s o n))) s
+            (serve s i o (allow m (park x) c) (store.left (carried (thread i (s .prio i) 1) (allow m (park x) c) (thing s o n)) (thing s o n))) .slot o
+            ≡ ledger (note (store.answer (carried (thread i (s .prio i) 1) (allow m (park x) c) (thing s o n)))
+            (unless (store.answer (carried (thread i (s .prio i) 1) (allow m (park x) c) (thing s o n))) [] []) ++ l)
         go true w d e = rw d (z ∙ h)
         go false true d e = rw (d, e, eq-eqb o o refl) (posted m 1 [] b)
         go false false d e = rw (d, e) (z ∙ h)
@@ -74,9 +75,9 @@ module _ {K : Kind} (law : Lawful K) (s : Sys K) (g : Fine s) (i o : ℕ) (k : K
       go vacant z = h
       go (object n) z = by (callerCode (s .prio i) (number (s .state i))) refl
         where
-          As : Out (K .Num) → Type 0
-          As u = unless (u .turn .code) s (serve s i o (verdict s i o k n) u) .slot o
-              ≡ ledger (note (u .turn .code) (unless (u .turn .code) [] (woken (deed (verdict s i o k n)) (s .queue o))) ++ l)
+          As : store.Reply (Object (K .Num)) → Type 0
+          As y = unless (store.answer y) s (serve s i o (verdict s i o k n) (store.left y (thing s o n))) .slot o
+              ≡ ledger (note (store.answer y) (unless (store.answer y) [] (woken (deed (verdict s i o k n)) (s .queue o))) ++ l)
 
           by : (c : ℤ) → callerCode (s .prio i) (number (s .state i)) ≡ c
               → visited (object n) s i o k .0 .slot o ≡ ledger (note (visited (object n) s i o k .1) (visited (object n) s i o k .2) ++ l)
@@ -97,7 +98,7 @@ module _ {K : Kind} (s : Sys K) (i a : ℕ) (k : K .Call) (o : ℕ) (e : a ≡ o
 
       go : (x : Slot (K .Num)) → visited x s i a k .0 .slot o ≡ s .slot o
       go vacant = refl
-      go (object n) = either (outcome s i a k n .turn .code) (serve s i a (verdict s i a k n) (outcome s i a k n)) (rw (ne-eqb a o e))
+      go (object n) = either (store.answer (outcome s i a k n)) (serve s i a (verdict s i a k n) (store.left (outcome s i a k n) (thing s a n))) (rw (ne-eqb a o e))
 
 -- a call, of any object
 called-books : {K : Kind} → Lawful K → (s : Sys K) → Fine s → (i a : ℕ) (k : K .Call) (o : ℕ) (l : List (Note K)) → s .slot o ≡ ledger l

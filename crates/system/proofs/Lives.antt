@@ -39,7 +39,7 @@ module _ {K : Kind} (s : Sys K) where
     where
       go : (y : Slot (K .Num)) → reply (visited y s i o k .1) ≡ denied c → visited y s i o k .0 ≡ s
       go vacant h = refl
-      go (object n) h = undone (outcome s i o k n .turn .code) c (serve s i o (verdict s i o k n) (outcome s i o k n)) h
+      go (object n) h = undone (store.answer (outcome s i o k n)) c (serve s i o (verdict s i o k n) (store.left (outcome s i o k n) (thing s o n))) h
   refuses (both i a j b k) c = go (eqb a b)
     where
       go : (y : Bool) → cond {A = Reply K} y (refuse s einval) (paired s i a j b k) .1 ≡ denied c
@@ -91,7 +91,7 @@ silent {K} s (invoke i o k) c h = go (s .slot o) h
   where
     go : (y : Slot (K .Num)) → reply (visited y s i o k .1) ≡ denied c → visited y s i o k .2 ≡ []
     go vacant h = refl
-    go (object n) h = none (outcome s i o k n .turn .code) c (system.woken (deed (verdict s i o k n)) (s .queue o)) h
+    go (object n) h = none (store.answer (outcome s i o k n)) c (system.woken (deed (verdict s i o k n)) (s .queue o)) h
 silent {K} s (both i a j b k) c h = go (eqb a b) h
   where
     go : (y : Bool) → cond {A = Reply K} y (refuse s einval) (paired s i a j b k) .1 ≡ denied c
@@ -129,8 +129,8 @@ module _ {K : Kind} (law : Lawful K) (s : Sys K) (g : Fine s) (i o : ℕ) (k : K
   q = s .queue o
 
   by-verdict : (d : Verdict (K .Num) (K .Wish)) → s .state i ≡ running → Right K (s .wish) (map ident q) i k d
-      → Does K (s .wish) i o k t (s .state t) (unless (carried (thread i (s .prio i) 1) d n q .turn .code) s
-      (serve s i o d (carried (thread i (s .prio i) 1) d n q)) .state t)
+      → Does K (s .wish) i o k t (s .state t) (unless (store.answer (carried (thread i (s .prio i) 1) d (thing s o n))) s
+      (serve s i o d (store.left (carried (thread i (s .prio i) 1) d (thing s o n)) (thing s o n))) .state t)
   by-verdict (deny (negsuc c)) r a = nothing refl
   by-verdict (deny (pos c)) r a = nothing refl
   by-verdict (allow m keep (negsuc c)) r a = nothing refl
@@ -151,8 +151,8 @@ module _ {K : Kind} (law : Lawful K) (s : Sys K) (g : Fine s) (i o : ℕ) (k : K
       joins false e = nothing refl
 
       go : (y z : Bool) → holds (ident (entry (s .prio i) i)) q ≡ y → ltb (length q) maxWaiters ≡ z
-          → Does K (s .wish) i o k t (s .state t) (unless (carried (thread i (s .prio i) 1) (allow m (park x) c) n q .turn .code) s
-          (serve s i o (allow m (park x) c) (carried (thread i (s .prio i) 1) (allow m (park x) c) n q)) .state t)
+          → Does K (s .wish) i o k t (s .state t) (unless (store.answer (carried (thread i (s .prio i) 1) (allow m (park x) c) (thing s o n))) s
+          (serve s i o (allow m (park x) c) (store.left (carried (thread i (s .prio i) 1) (allow m (park x) c) (thing s o n)) (thing s o n))) .state t)
       go true z u v = rw u (nothing refl)
       go false true u v = rw (u, v) (joins (eqb i t) refl)
       go false false u v = rw (u, v) (nothing refl)
@@ -189,7 +189,7 @@ called-wish {K} s i o k t e = go (s .slot o)
 
     go : (x : Slot (K .Num)) → visited x s i o k .0 .wish t ≡ s .wish t
     go vacant = refl
-    go (object n) = either (outcome s i o k n .turn .code) (serve s i o (verdict s i o k n) (outcome s i o k n)) (kept (verdict s i o k n))
+    go (object n) = either (store.answer (outcome s i o k n)) (serve s i o (verdict s i o k n) (store.left (outcome s i o k n) (thing s o n))) (kept (verdict s i o k n))
 
 module _ {K : Kind} (v : ℕ → K .Wish) (x : Op K) (a : Answer) (i t : ℕ) where
   -- of one call

@@ -18,7 +18,7 @@ use Rattle.wait_queue.proofs.Answers.{ident-entry}
 use Rattle.kind.specs.Verdict.{keep, park, wake, Verdict, deny, allow}
 use Rattle.kind.specs.Kind.{Kind, Lawful}
 use Rattle.kind.specs.Object.{thread, carried}
-use Rattle.kind.proofs.Picks.{left-sub}
+use Rattle.kind.proofs.Picks.{spared-sub}
 use Rattle.system.specs.System.{State, absent, running, ready, waiting, number, Slot, vacant, object, Sys, Op, invoke, both, dispatch, yield, expire, spawn, create, unless, serve, outcome, verdict, visited, called, dispatched, yielded, expired, spawned, created, free, gone-by, answers, step, after, Reply, refuse, paired}
 use Rattle.thread.specs.Code.{einval}
 use Rattle.thread.specs.Priority.{valid}
@@ -82,22 +82,22 @@ pub data Next (o : ℕ) (f : ℕ → State) (q q' : List ℕ) : Type 0 where
 
 module _ {K : Kind} (s : Sys K) (g : Fine s) (i o : ℕ) (n : K .Num) (h : s .slot o ≡ object n) where
   by-verdict : (d : Verdict (K .Num) (K .Wish)) → s .state i ≡ running
-      → Next o (s .state) (s .queue o) (unless (carried (thread i (s .prio i) 1) d n (s .queue o) .turn .code) s
-      (serve s i o d (carried (thread i (s .prio i) 1) d n (s .queue o))) .queue o)
+      → Next o (s .state) (s .queue o) (unless (store.answer (carried (thread i (s .prio i) 1) d (thing s o n))) s
+      (serve s i o d (store.left (carried (thread i (s .prio i) 1) d (thing s o n)) (thing s o n))) .queue o)
   by-verdict (deny (negsuc c)) r = fewer (sub-all (s .queue o))
   by-verdict (deny (pos c)) r = rw (eq-eqb o o refl) (fewer (sub-all (s .queue o)))
   by-verdict (allow m keep (negsuc c)) r = fewer (sub-all (s .queue o))
   by-verdict (allow m keep (pos c)) r = rw (eq-eqb o o refl) (fewer (sub-all (s .queue o)))
   by-verdict (allow m (wake p f) (negsuc c)) r = fewer (sub-all (s .queue o))
-  by-verdict (allow m (wake p f) (pos c)) r = rw (eq-eqb o o refl) (fewer (left-sub ident p (s .queue o)))
+  by-verdict (allow m (wake p f) (pos c)) r = rw (eq-eqb o o refl) (fewer (spared-sub ident p (s .queue o)))
   by-verdict (allow m (park x) c) r = go (holds (ident (entry (s .prio i) i)) (s .queue o)) (ltb (length (s .queue o)) maxWaiters) refl refl
     where
       there : s .state i ≡ absent → ⊥
       there a = let v : running ≡ absent = sym r ∙ a in absurd (let y : _≡_ {A = ℕ} 0 1 = cc in omega arith)
 
       go : (a b : Bool) → holds (ident (entry (s .prio i) i)) (s .queue o) ≡ a → ltb (length (s .queue o)) maxWaiters ≡ b
-          → Next o (s .state) (s .queue o) (unless (carried (thread i (s .prio i) 1) (allow m (park x) c) n (s .queue o) .turn .code) s
-          (serve s i o (allow m (park x) c) (carried (thread i (s .prio i) 1) (allow m (park x) c) n (s .queue o))) .queue o)
+          → Next o (s .state) (s .queue o) (unless (store.answer (carried (thread i (s .prio i) 1) (allow m (park x) c) (thing s o n))) s
+          (serve s i o (allow m (park x) c) (store.left (carried (thread i (s .prio i) 1) (allow m (park x) c) (thing s o n)) (thing s o n))) .queue o)
       go true b y z = rw y (fewer (sub-all (s .queue o)))
       go false true y z = rw (y, z, eq-eqb o o refl) (more (s .prio i) i (ident-entry (s .prio i) i (g .known i there .0)) (rw r refl) refl)
       go false false y z = rw (y, z) (fewer (sub-all (s .queue o)))
@@ -124,7 +124,7 @@ called-there {K} s i o k y e = go (s .slot o)
 
     go : (x : Slot (K .Num)) → visited x s i o k .0 .queue y ≡ s .queue y
     go vacant = refl
-    go (object n) = either (outcome s i o k n .turn .code) (serve s i o (verdict s i o k n) (outcome s i o k n)) (rw (ne-eqb o y e))
+    go (object n) = either (store.answer (outcome s i o k n)) (serve s i o (verdict s i o k n) (store.left (outcome s i o k n) (thing s o n))) (rw (ne-eqb o y e))
 
 -- any step
 module _ {K : Kind} (law : Lawful K) (s : Sys K) (g : Fine s) where

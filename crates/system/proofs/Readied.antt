@@ -28,7 +28,7 @@ module _ {K : Kind} (s : Sys K) (i o : ℕ) (k : K .Call) (n : K .Num) (h : s .s
   -- who is woken is made ready, and no other changes but the caller
   pub call-readies : Readies s i (called s i o k .2) (called s i o k .0)
   call-readies =
-      subst (λ (y : Slot (K .Num)). Readies s i (visited y s i o k .2) (visited y s i o k .0)) (sym h) (go (outcome s i o k n .turn .code) (verdict s i o k n))
+      subst (λ (y : Slot (K .Num)). Readies s i (visited y s i o k .2) (visited y s i o k .0)) (sym h) (go (store.answer (outcome s i o k n)) (verdict s i o k n))
     where
       roused : (m : K .Num) (p : Pick) (f : ℕ → ℤ) (r : ℤ) (y : List ℕ) → ((t : ℕ) → holds t y ≡ true → holds t (gone ident p q) ≡ true)
           → All (λ (w : Woken). serve s i o (allow m (wake p f) r) (outcome s i o k n) .state (w .thread) ≡ ready (w .result))

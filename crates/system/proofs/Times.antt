@@ -52,7 +52,7 @@ times-chosen t f (x ∷ q) = go (f x) (eqb (ident x) t) refl (times-chosen t f q
     go false true u ih = rw u (omega arith)
     go false false u ih = rw u ih
 
-pub times-pick : (t : ℕ) (p : Pick) (q : List ℕ) → times t q ≡ times t (gone ident p q) + times t (left ident p q)
+pub times-pick : (t : ℕ) (p : Pick) (q : List ℕ) → times t q ≡ times t (gone ident p q) + times t (spared ident p q)
 times-pick t (upTo n) q = times-take t n q
 times-pick t everybody q = omega arith
 times-pick t (those f) q = times-chosen t (λ x. f (ident x)) q

@@ -7,9 +7,9 @@ use lib.IntN.{ℤ, pos, negsuc}
 use lib.ListN.{take}
 use borrow.Author.Tests.{ne-eqb}
 use Rattle.wait_queue.specs.Turn.{waits}
-use Rattle.wait_queue.specs.Post.{Refused, Told}
+use Rattle.store.specs.Store.{answer, out, reply as replied, Did, first, Refused, Allowed}
 use Rattle.kind.specs.Kind.{Kind, Lawful}
-use Rattle.kind.specs.Object.{Layout, on, Does}
+use Rattle.kind.specs.Object.{Layout}
 use Rattle.mutex.specs.Mutex as mutex
 use Rattle.mutex.specs.Mutex.{mutex-kind}
 use Rattle.mutex.specs.Post as lock
@@ -17,7 +17,7 @@ use Rattle.mutex.specs.Post.{releaseOut}
 use Rattle.condvar.specs.Condvar as condvar
 use Rattle.condvar.specs.Condvar.{condvar-kind}
 use Rattle.condvar.specs.Post as condition
-use Rattle.condvar.specs.Post.{agreed, Allowed, Waits}
+use Rattle.condvar.specs.Post.{agreed, Waits}
 use Rattle.system.specs.Part.{Part}
 use Rattle.system.specs.System.{number, Sys, reply, called, answers}
 use Rattle.system.specs.Rules.{Fine}
@@ -75,26 +75,26 @@ module _ {K : Kind} (law : Lawful K) (P : Part mutex-kind K) (fits : Fits P) (C 
     where
       moved : {N : Type 0} {L : Layout N} {num : N → K .Num} {o : ℕ} {m d m' d' : List ℕ} → Is L num s o m d → m' ≡ m → d' ≡ d → Is L num s o m' d'
       moved i v w = rw (v, w) i
-  by-answer (pos n) z = by (on lock.layout (releaseOut i (s .prio i) (number (s .state i))) h e .turn .code) refl
+  by-answer (pos n) z = by (answer (replied lock.place (releaseOut i (s .prio i) (number (s .state i))) h e)) refl
     where
       told : answers s i a j b k ≡ pos n
       told = sym said ∙ z
 
-      does : Does condition.layout (condition.waitOut i (s .prio i) (number (s .state i))) (c .header) (c .entries) waits (c' .header) (c' .entries)
-          × Does lock.layout (releaseOut i (s .prio i) (number (s .state i))) h e (u .answer) (u .after .header) e
-          × Told (on lock.layout (releaseOut i (s .prio i) (number (s .state i))) h e .turn .woken) (d .who) (d .who')
+      does : Did condition.place (condition.waitOut i (s .prio i) (number (s .state i))) (c .header) (c .entries) waits (c' .header) (c' .entries)
+          × Did lock.place (releaseOut i (s .prio i) (number (s .state i))) h e (u .answer) (u .after .header) e
+          × (d .who' ≡ first (d .who) (out (replied lock.place (releaseOut i (s .prio i) (number (s .state i))) h e)))
       does =
           subst
           (λ (r : ℤ).
           Allowed r
-          (Does condition.layout (condition.waitOut i (s .prio i) (number (s .state i))) (c .header) (c .entries) waits (c' .header) (c' .entries)
-          × Does lock.layout (releaseOut i (s .prio i) (number (s .state i))) h e (u .answer) (u .after .header) e
-          × Told (on lock.layout (releaseOut i (s .prio i) (number (s .state i))) h e .turn .woken) (d .who) (d .who')))
+          (Did condition.place (condition.waitOut i (s .prio i) (number (s .state i))) (c .header) (c .entries) waits (c' .header) (c' .entries)
+          × Did lock.place (releaseOut i (s .prio i) (number (s .state i))) h e (u .answer) (u .after .header) e
+          × (d .who' ≡ first (d .who) (out (replied lock.place (releaseOut i (s .prio i) (number (s .state i))) h e)))))
           z (waited .both)
 
-      by : (v : ℤ) → on lock.layout (releaseOut i (s .prio i) (number (s .state i))) h e .turn .code ≡ v → Goal
+      by : (v : ℤ) → answer (replied lock.place (releaseOut i (s .prio i) (number (s .state i))) h e) ≡ v → Goal
       by (negsuc v) f =
-          let l : agreed (negsuc v) (on condition.layout (condition.waitOut i (s .prio i) (number (s .state i))) (c .header) (c .entries) .turn .code) ≡ pos n =
+          let l : agreed (negsuc v) (answer (replied condition.place (condition.waitOut i (s .prio i) (number (s .state i))) (c .header) (c .entries))) ≡ pos n =
           rw f at (sym (waited .code) ∙ z) in
           absurd (let o : _≡_ {A = ℕ} 0 1 = cc in omega arith)
       by (pos v) f =

@@ -8,12 +8,12 @@ use lib.IntN.{ℤ, pos, negsuc}
 use lib.ListN.{length}
 use Rattle.thread.specs.Code.{edeadlk}
 use Rattle.thread.specs.Caller.{callerCode}
+use Rattle.store.specs.Store.{Reply, refuse, answer, out, reply, Did, first}
 use Rattle.wait_queue.specs.Queue.{ident}
 use Rattle.wait_queue.specs.Turn.{waits}
-use Rattle.wait_queue.specs.Post.{Told}
 use Rattle.kind.specs.Verdict.{keep, park, wake, Verdict, deny, allow}
 use Rattle.kind.specs.Kind.{Kind, Lawful}
-use Rattle.kind.specs.Object.{Out, refused, thread, on, Does}
+use Rattle.kind.specs.Object.{Object, thread}
 use Rattle.mutex.specs.Mutex as mutex
 use Rattle.mutex.specs.Mutex.{Mutex, unlocks, mutex-kind}
 use Rattle.mutex.specs.Post as lock
@@ -65,19 +65,19 @@ module _ {K : Kind} (law : Lawful K) (P : Part mutex-kind K) (fits : Fits P) (C 
   abbrev end : Sys K
   end = called mid i b await .0
 
-  abbrev given : Out Mutex
-  given = on lock.layout (releaseOut i p st) m d
+  abbrev given : Reply (Object Mutex)
+  given = reply lock.place (releaseOut i p st) m d
 
-  abbrev joined : Out (Unit {0})
-  joined = on condition.layout (condition.waitOut i p st) h e
+  abbrev joined : Reply (Object (Unit {0}))
+  joined = reply condition.place (condition.waitOut i p st) h e
 
   abbrev n : Mutex
   n = lock.layout .num m
 
-  first-same : outcome s i a release (P .num n) ≡ wrapped (P .num) (releaseOut i p st n (s .queue a))
-  first-same = call-part P fits (s .wish) (thread i p st) mutex.release n (s .queue a)
+  first-same : outcome s i a release (P .num n) ≡ wrapped (P .num) (releaseOut i p st (record { num = n; queue = s .queue a }))
+  first-same = call-part P fits (s .wish) (thread i p st) mutex.release (record { num = n; queue = s .queue a })
 
-  first-tells : called s i a release .1 ≡ given .turn .code
+  first-tells : called s i a release .1 ≡ answer given
   first-tells = tells law lock.layout (P .num) s g i a release (releaseOut i p st) m d x first-same
 
   first-within : Within single (onlyAt 2) (s .queue a) (verdict s i a release (P .num n))
@@ -106,7 +106,7 @@ module _ {K : Kind} (law : Lawful K) (P : Part mutex-kind K) (fits : Fits P) (C 
   second-none : length (called mid i b await .2) ≤ 0
   second-none = handed-few mid fine-mid i b await (C .num tt) (y-mid .slot) nobody nobody second-within
 
-  module _ (c : ℕ) (z : given .turn .code ≡ pos c) where
+  module _ (c : ℕ) (z : answer given ≡ pos c) where
     -- who is not refused runs
     run : s .state i ≡ running
     run = go (callerCode p st) refl
@@ -114,34 +114,34 @@ module _ {K : Kind} (law : Lawful K) (P : Part mutex-kind K) (fits : Fits P) (C 
         go : (w : ℤ) → callerCode p st ≡ w → s .state i ≡ running
         go (pos k) v = runs p (s .state i) k v
         go (negsuc k) v =
-            let o : outcome s i a release (P .num n) ≡ refused (negsuc k) (P .num n) (s .queue a) = barred s i a release (P .num n)
+            let o : outcome s i a release (P .num n) ≡ refuse (negsuc k) = barred s i a release (P .num n)
             (g .formed a (P .num n) (x .slot)) k v in
-            let t : called s i a release .1 ≡ negsuc k = rw (x .slot) (ap (λ (u : Out (K .Num)). u .turn .code) o) in
+            let t : called s i a release .1 ≡ negsuc k = rw (x .slot) (ap answer o) in
             let l : pos c ≡ negsuc k = sym z ∙ sym first-tells ∙ t in
             absurd (let j : _≡_ {A = ℕ} 0 1 = cc in omega arith)
 
     state-mid : mid .state i ≡ s .state i
     state-mid = still s g i a release run (P .num n) (x .slot) first-stays
 
-    second-same : outcome mid i b await (C .num tt) ≡ wrapped (C .num) (condition.waitOut i p st tt (mid .queue b))
+    second-same : outcome mid i b await (C .num tt) ≡ wrapped (C .num) (condition.waitOut i p st (record { num = tt; queue = mid .queue b }))
     second-same =
-        call-part C fitting (mid .wish) (thread i (mid .prio i) (number (mid .state i))) condvar.wait tt (mid .queue b)
-        ∙ ap (λ (t : ℕ). wrapped (C .num) (condition.waitOut i t (number (mid .state i)) tt (mid .queue b))) (prio-kept s i a release i)
-        ∙ ap (λ (t : State). wrapped (C .num) (condition.waitOut i p (number t) tt (mid .queue b))) state-mid
+        call-part C fitting (mid .wish) (thread i (mid .prio i) (number (mid .state i))) condvar.wait (record { num = tt; queue = mid .queue b })
+        ∙ ap (λ (t : ℕ). wrapped (C .num) (condition.waitOut i t (number (mid .state i)) (record { num = tt; queue = mid .queue b }))) (prio-kept s i a release i)
+        ∙ ap (λ (t : State). wrapped (C .num) (condition.waitOut i p (number t) (record { num = tt; queue = mid .queue b }))) state-mid
 
-    second-tells : called mid i b await .1 ≡ joined .turn .code
+    second-tells : called mid i b await .1 ≡ answer joined
     second-tells = tells law condition.layout (C .num) mid fine-mid i b await (condition.waitOut i p st) h e y-mid second-same
 
-  pub both-tell : answers s i a release b await ≡ agreed (given .turn .code) (joined .turn .code)
-  both-tell = rw first-tells (go (given .turn .code) refl)
+  pub both-tell : answers s i a release b await ≡ agreed (answer given) (answer joined)
+  both-tell = rw first-tells (go (answer given) refl)
     where
-      go : (z : ℤ) → given .turn .code ≡ z → agreed z (called mid i b await .1) ≡ agreed z (joined .turn .code)
+      go : (z : ℤ) → answer given ≡ z → agreed z (called mid i b await .1) ≡ agreed z (answer joined)
       go (pos c) z = ap (agreed (pos c)) (second-tells c z)
       go (negsuc c) z = refl
 
   -- both are done
-  module _ (c : ℕ) (told : answers s i a release b await ≡ pos c) (k : ℕ) (z : given .turn .code ≡ pos k) (r : ℤ) (h' e' m' : List ℕ)
-      (one : Does lock.layout (releaseOut i p st) m d r m' d) (two : Does condition.layout (condition.waitOut i p st) h e waits h' e') where
+  module _ (c : ℕ) (told : answers s i a release b await ≡ pos c) (k : ℕ) (z : answer given ≡ pos k) (r : ℤ) (h' e' m' : List ℕ)
+      (one : Did lock.place (releaseOut i p st) m d r m' d) (two : Did condition.place (condition.waitOut i p st) h e waits h' e') where
     pub first-is : Is lock.layout (P .num) end a m' d
     first-is =
         is-kept lock.layout (P .num) mid end a m' d (slot-kept mid i b await a (λ o. off (sym o))) (queue-kept mid i b await a (λ o. off (sym o)))
@@ -150,14 +150,14 @@ module _ {K : Kind} (law : Lawful K) (P : Part mutex-kind K) (fits : Fits P) (C 
     pub second-is : Is condition.layout (C .num) end b h' e'
     second-is = leaves law condition.layout (C .num) mid fine-mid i b await (condition.waitOut i p st) h e y-mid (second-same k z) waits h' e' two
 
-    pub hands : (w w' : ℕ) (out out' : List ℕ) → out ≡ w ∷ [] → out' ≡ w' ∷ [] → Told (given .turn .woken) w w'
+    pub hands : (w w' : ℕ) (out out' : List ℕ) → out ≡ w ∷ [] → out' ≡ w' ∷ [] → w' ≡ first w (out given)
         → Handed (called s i a release .2 ++ called mid i b await .2) out out'
     hands w w' out out' v v' t =
         in-word (called s i a release .2 ++ called mid i b await .2) w w' out out' v v'
         (length-on (called s i a release .2) (called mid i b await .2) second-none
         (handed-few s g i a release (P .num n) (x .slot) single (onlyAt 2) first-within))
         (told-on (called s i a release .2) (called mid i b await .2) w w' second-none
-        (subst (λ (l : List ℕ). Told l w w') (gives law lock.layout (P .num) s g i a release (releaseOut i p st) m d x first-same single
+        (subst (λ (l : List ℕ). w' ≡ first w l) (gives law lock.layout (P .num) s g i a release (releaseOut i p st) m d x first-same single
         (onlyAt 2) first-within) t))
 
     pub ready-both : Readies s i (called s i a release .2 ++ called mid i b await .2) end
@@ -167,7 +167,7 @@ module _ {K : Kind} (law : Lawful K) (P : Part mutex-kind K) (fits : Fits P) (C 
         (call-readies mid i b await (C .num tt) (y-mid .slot))
 
     -- as many words as the first's answer says
-    pub count : length (called s i a release .2 ++ called mid i b await .2) ≡ heard (onlyAt 2) (given .turn .code)
+    pub count : length (called s i a release .2 ++ called mid i b await .2) ≡ heard (onlyAt 2) (answer given)
     count =
         length-same (called s i a release .2) (called mid i b await .2) second-none
         ∙ handed-count s g i a release (P .num n) (x .slot) single (onlyAt 2) first-within ∙ ap (heard (onlyAt 2)) first-tells

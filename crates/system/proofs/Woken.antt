@@ -17,7 +17,8 @@ use Rattle.wait_queue.proofs.Answers.{ident-entry}
 use Rattle.wait_queue.proofs.Insertion.{prio-entry}
 use Rattle.kind.specs.Verdict.{gone, keep, park, wake, Verdict, deny, allow}
 use Rattle.kind.specs.Kind.{Kind}
-use Rattle.kind.specs.Object.{Out, thread, carried}
+use Rattle.store.specs.Store as store
+use Rattle.kind.specs.Object.{Object, thread, carried}
 use Rattle.system.specs.Sum.{mapped}
 use Rattle.system.specs.System.{number, Slot, object, Sys, Woken, deed, woken, unless, outcome, verdict, visited, called}
 use Rattle.system.specs.Rules.{Fine}
@@ -93,17 +94,17 @@ module _ {K : Kind} (s : Sys K) (g : Fine s) (i o : ℕ) (k : K .Call) (n : K .N
   l = called s i o k .2
 
   -- as it is carried out
-  abbrev out : Verdict (K .Num) (K .Wish) → Out (K .Num)
-  out d = carried (thread i (s .prio i) 1) d n q
+  abbrev given : Verdict (K .Num) (K .Wish) → store.Reply (Object (K .Num))
+  given d = carried (thread i (s .prio i) 1) d (thing s o n)
 
   abbrev awake : ℤ → Verdict (K .Num) (K .Wish) → List Woken
   awake z d = unless z [] (woken (deed d) q)
 
   module _ (m c : ℕ → ℕ) where
-    told : (d : Verdict (K .Num) (K .Wish)) → Within m c q d → out d .turn .woken ≡ map word (awake (out d .turn .code) d)
+    told : (d : Verdict (K .Num) (K .Wish)) → Within m c q d → store.out (given d) ≡ map word (awake (store.answer (given d)) d)
     told (deny r) x = rw (unless-none r) refl
     told (allow a keep r) x = rw (unless-none r) refl
-    told (allow a (park y) r) x = parked-none (entry (s .prio i) i) q ∙ rw (unless-none (parked (entry (s .prio i) i) q .code)) refl
+    told (allow a (park y) r) x = parked-none (entry (s .prio i) i) q ∙ rw (unless-none (store.answer (parked (entry (s .prio i) i) q))) refl
     told (allow a (wake p f) (pos r)) x = words f (gone ident p q)
     told (allow a (wake p f) (negsuc r)) x = absurd x
 
@@ -117,10 +118,10 @@ module _ {K : Kind} (s : Sys K) (g : Fine s) (i o : ℕ) (k : K .Call) (n : K .N
         omega (arith, e, x .0)
     few (allow a (wake p f) (negsuc r)) (pos z) x = absurd x
 
-    counted : (d : Verdict (K .Num) (K .Wish)) → Within m c q d → length (awake (out d .turn .code) d) ≡ heard c (out d .turn .code)
+    counted : (d : Verdict (K .Num) (K .Wish)) → Within m c q d → length (awake (store.answer (given d)) d) ≡ heard c (store.answer (given d))
     counted (deny r) x = rw (unless-none r) (sym x)
     counted (allow a keep r) x = rw (unless-none r) (sym x)
-    counted (allow a (park y) r) x = rw (unless-none (parked (entry (s .prio i) i) q .code)) (sym (parked-heard c (entry (s .prio i) i) q x))
+    counted (allow a (park y) r) x = rw (unless-none (store.answer (parked (entry (s .prio i) i) q))) (sym (parked-heard c (entry (s .prio i) i) q x))
     counted (allow a (wake p f) (pos r)) x = length-map (gone ident p q) _ ∙ x .1
     counted (allow a (wake p f) (negsuc r)) x = absurd x
 
@@ -134,24 +135,24 @@ module _ {K : Kind} (s : Sys K) (g : Fine s) (i o : ℕ) (k : K .Call) (n : K .N
 
     -- the words of the outcome are those of the step, not too many, and as many as the answer says
     module _ (x : Within m c q (verdict s i o k n)) where
-      pub handed-out : outcome s i o k n .turn .woken ≡ map word l
+      pub handed-out : store.out (outcome s i o k n) ≡ map word l
       handed-out =
-          subst (λ (y : Slot (K .Num)). outcome s i o k n .turn .woken ≡ map word (visited y s i o k .2)) (sym h)
+          subst (λ (y : Slot (K .Num)). store.out (outcome s i o k n) ≡ map word (visited y s i o k .2)) (sym h)
           (go (callerCode (s .prio i) (number (s .state i))) refl)
         where
           go : (z : ℤ) → callerCode (s .prio i) (number (s .state i)) ≡ z
-              → outcome s i o k n .turn .woken ≡ map word (awake (outcome s i o k n .turn .code) (verdict s i o k n))
+              → store.out (outcome s i o k n) ≡ map word (awake (store.answer (outcome s i o k n)) (verdict s i o k n))
           go (negsuc r) z = rw (barred s i o k n (g .formed o n h) r z) refl
           go (pos r) z = rw (granted s i o k n (g .formed o n h) r z) (told (verdict s i o k n) x)
 
       pub handed-few : length l ≤ m (length q)
       handed-few =
-          subst (λ (y : Slot (K .Num)). length (visited y s i o k .2) ≤ m (length q)) (sym h) (few (verdict s i o k n) (outcome s i o k n .turn .code) x)
+          subst (λ (y : Slot (K .Num)). length (visited y s i o k .2) ≤ m (length q)) (sym h) (few (verdict s i o k n) (store.answer (outcome s i o k n)) x)
 
       pub handed-read : map read (map word l) ≡ l
       handed-read =
           subst (λ (y : Slot (K .Num)). map read (map word (visited y s i o k .2)) ≡ visited y s i o k .2) (sym h)
-          (read-again (verdict s i o k n) (outcome s i o k n .turn .code) x)
+          (read-again (verdict s i o k n) (store.answer (outcome s i o k n)) x)
 
       pub handed-count : length l ≡ heard c (called s i o k .1)
       handed-count =
@@ -159,6 +160,6 @@ module _ {K : Kind} (s : Sys K) (g : Fine s) (i o : ℕ) (k : K .Call) (n : K .N
           (go (callerCode (s .prio i) (number (s .state i))) refl)
         where
           go : (z : ℤ) → callerCode (s .prio i) (number (s .state i)) ≡ z
-              → length (awake (outcome s i o k n .turn .code) (verdict s i o k n)) ≡ heard c (outcome s i o k n .turn .code)
+              → length (awake (store.answer (outcome s i o k n)) (verdict s i o k n)) ≡ heard c (store.answer (outcome s i o k n))
           go (negsuc r) z = rw (barred s i o k n (g .formed o n h) r z) refl
           go (pos r) z = rw (granted s i o k n (g .formed o n h) r z) (counted (verdict s i o k n) x)

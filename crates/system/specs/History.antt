@@ -1,7 +1,7 @@
 -- A history of calls of the code on objects in memory: what a kernel has to see to, and what then holds.
 use mathlib.Core.Path.{_≡_}
 use mathlib.Core.List.{List, [], _∷_}
-use Prim.Native.Nat.{ℕ, _≤_}
+use Prim.Native.Nat.{ℕ, suc, _≤_}
 use lib.IntN.{ℤ}
 use lib.ListN.{length, getD, set}
 use Rattle.seq.specs.List.{All}
@@ -9,7 +9,7 @@ use Rattle.thread.specs.Code.{eagain}
 use Rattle.wait_queue.specs.Queue.{maxWaiters}
 use Rattle.wait_queue.specs.Post.{Removes}
 use Rattle.kind.specs.Kind.{Kind}
-use Rattle.kind.specs.Object.{Started}
+use Rattle.kind.specs.Object.{Opened}
 use Rattle.system.specs.System.{State, ready, vacant, object, waiting, Sys, Op, both, expire, create}
 use Rattle.system.specs.System.{reply, step, after}
 use Rattle.system.specs.Rules.{Fine}
@@ -50,8 +50,8 @@ module _ {K : Kind} (C : Library K) (sort : ℕ → C .Sort) where
         → Happens s w w' (seen (both i a (firstCall t) b (secondCall t)) (C .double t .wrote) u (a ∷ b ∷ []) i (settle b (u .answer)))
     -- init, in a slot that is vacant and in memory that is long enough
     inits : (o : ℕ) (n : class o .kind .Num) (r : ℤ) → s .slot o ≡ vacant → class o .code .Told n
-        → class o .code .layout .words ≤ length (w o .header) → maxWaiters ≤ length (w o .entries)
-        → Started (class o .kind) (class o .code .layout) n (w o .header) r (w' o .header) → w' o .entries ≡ w o .entries
+        → suc (class o .code .layout .len) ≤ length (w o .header) → maxWaiters ≤ length (w o .entries)
+        → Opened (class o .kind) (class o .code .layout) n (w o .header) r (w' o .header) → w' o .entries ≡ w o .entries
         → Happens s w w' (quiet (create o (class o .part .num n)) (reply r) (o ∷ []) 0 (λ x. x))
     -- remove, of a thread that waits on the object o: it is lent the word of the header that has the queue's length
     removes : (i o : ℕ) (n : K .Num) (r : ℤ) (k : ℕ) → s .state i ≡ waiting o → s .slot o ≡ object n

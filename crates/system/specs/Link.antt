@@ -2,7 +2,7 @@
 use mathlib.Core.Path.{_≡_}
 use mathlib.Core.Bool.{Bool, true, false, cond}
 use mathlib.Core.List.{List, map}
-use Prim.Native.Nat.{ℕ, _-_, _≤_}
+use Prim.Native.Nat.{ℕ, suc, _-_, _≤_}
 use lib.Dec.{eqb, ltb}
 use lib.IntN.{ℤ, pos, negsuc}
 use lib.ListN.{length, getD}
@@ -10,10 +10,9 @@ use Rattle.seq.specs.Word.{high}
 use Rattle.seq.specs.List.{All}
 use Rattle.wait_queue.specs.Queue.{ident, woken, roomy}
 use Rattle.wait_queue.specs.Queue as queue
-use Rattle.wait_queue.specs.Post.{Listed}
+use Rattle.store.specs.Store.{Filled, Allowed}
 use Rattle.kind.specs.Kind.{Kind}
 use Rattle.kind.specs.Object.{Layout}
-use Rattle.condvar.specs.Post.{Allowed}
 use Rattle.system.specs.System.{State, running, ready, waiting, number, object, Sys, Op, both, reply, Woken, called, step}
 use Rattle.system.specs.Part.{Part}
 use Rattle.system.specs.Rules.{Fine}
@@ -21,7 +20,7 @@ use Rattle.system.specs.Functions.{Memory, Use, Function, Double, told}
 
 -- the header h and the entries e are the object o of s
 pub record Is {K : Kind} {N : Type 0} (L : Layout N) (num : N → K .Num) (s : Sys K) (o : ℕ) (h e : List ℕ) : Type 0 where
-  pub words : L .words ≤ length h
+  pub words : suc (L .len) ≤ length h
   pub room : roomy (getD h (L .len) 0) e ≡ true
   pub slot : s .slot o ≡ object (num (L .num h))
   pub queue : s .queue o ≡ queue.waiting e (getD h (L .len) 0)
@@ -39,7 +38,7 @@ read y = record { thread = ident y; result = signed (high y) }
 
 -- the place out, lent for woken threads, became out': in front the words of l, one for each and in this order; what is behind stays
 abbrev pub Handed : List Woken → List ℕ → List ℕ → Type 0
-Handed l out out' = Listed (map word l) out out'
+Handed l out out' = Filled (map word l) out out'
 
 -- from s to u the threads of l were made ready, each with its result, and no other thread but i changed
 pub record Readies {K : Kind} (s : Sys K) (i : ℕ) (l : List Woken) (u : Sys K) : Type 0 where

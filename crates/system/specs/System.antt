@@ -9,7 +9,9 @@ use Rattle.thread.specs.Priority.{valid}
 use Rattle.wait_queue.specs.Queue.{ident, holds, without}
 use Rattle.kind.specs.Verdict.{gone, Act, keep, park, wake, Verdict, deny, allow}
 use Rattle.kind.specs.Kind.{Kind}
-use Rattle.kind.specs.Object.{Out, thread, call}
+use Rattle.store.specs.Store as store
+use Rattle.store.specs.History as history
+use Rattle.kind.specs.Object.{Object, thread, call}
 use Rattle.condvar.specs.Post.{agreed}
 
 -- a thread is not there; runs; is ready, with the result of its last call; waits in the queue of an object
@@ -72,8 +74,7 @@ Kernel K = Sys K → Op K → Reply K
 
 -- the state after a history of a kernel, the newest operation in front
 abbrev pub reached : {K : Kind} → Kernel K → Sys K → List (Op K) → Sys K
-reached f s [] = s
-reached f s (x ∷ past) = f (reached f s past) x .0
+reached f s past = history.after (λ s x. f s x .0) s past
 
 -- done, and nobody is woken; refused, and nothing changes
 abbrev pub accept : {K : Kind} → Sys K → ℤ → Reply K
@@ -124,30 +125,34 @@ gone-by (ready r) = false
 gone-by (waiting o) = false
 
 module _ {K : Kind} where
-  -- what the object o, with the numbers n, does: the definition that the code's contract cites
-  abbrev pub outcome : Sys K → ℕ → ℕ → K .Call → K .Num → Out (K .Num)
-  outcome s i o k n = call K (s .wish) (thread i (s .prio i) (number (s .state i))) k n (s .queue o)
+  -- the object o, with the numbers n
+  abbrev pub thing : Sys K → ℕ → K .Num → Object (K .Num)
+  thing s o n = record { num = n; queue = s .queue o }
+
+  -- what it replies: the definition that the code's contract cites
+  abbrev pub outcome : Sys K → ℕ → ℕ → K .Call → K .Num → store.Reply (Object (K .Num))
+  outcome s i o k n = call K (s .wish) (thread i (s .prio i) (number (s .state i))) k (thing s o n)
 
   abbrev pub verdict : Sys K → ℕ → ℕ → K .Call → K .Num → Verdict (K .Num) (K .Wish)
   verdict s i o k n = K .decide n (s .wish) (map ident (s .queue o)) i k
 
   -- the verdict d of the object o on a call of the thread i is done: u is what it leaves of the object
-  abbrev pub serve : Sys K → ℕ → ℕ → Verdict (K .Num) (K .Wish) → Out (K .Num) → Sys K
+  abbrev pub serve : Sys K → ℕ → ℕ → Verdict (K .Num) (K .Wish) → Object (K .Num) → Sys K
   serve s i o d u =
       record {
         prio = s .prio;
         state = states (deed d) i o (s .queue o) (s .state);
         wish = wishes (deed d) i (s .wish);
         slot = upd (s .slot) o (object (u .num));
-        queue = upd (s .queue) o (u .turn .queue);
+        queue = upd (s .queue) o (u .queue);
       }
 
   abbrev pub visited : Slot (K .Num) → Sys K → ℕ → ℕ → K .Call → Sys K × ℤ × List Woken
   visited vacant s i o k = (s, einval, [])
   visited (object n) s i o k = (
-    unless (outcome s i o k n .turn .code) s (serve s i o (verdict s i o k n) (outcome s i o k n)),
-    outcome s i o k n .turn .code,
-    unless (outcome s i o k n .turn .code) [] (woken (deed (verdict s i o k n)) (s .queue o)),
+    unless (store.answer (outcome s i o k n)) s (serve s i o (verdict s i o k n) (store.left (outcome s i o k n) (thing s o n))),
+    store.answer (outcome s i o k n),
+    unless (store.answer (outcome s i o k n)) [] (woken (deed (verdict s i o k n)) (s .queue o)),
   )
 
   abbrev pub called : Sys K → ℕ → ℕ → K .Call → Sys K × ℤ × List Woken
