@@ -14,10 +14,11 @@ use Rattle.seq.proofs.Order.{clash}
 use Rattle.thread.specs.Code.{einval}
 use Rattle.thread.specs.Caller.{callerCode}
 use Rattle.wait_queue.specs.Queue.{maxWaiters, entry, ident, holds}
+use Rattle.store.specs.Store as store
 use Rattle.kind.specs.Verdict.{Pick, upTo, everybody, those, gone, keep, park, wake, Verdict, deny, allow}
 use Rattle.kind.specs.Kind.{Kind, Lawful}
 use Rattle.kind.specs.Object.{thread, carried}
-use Rattle.system.specs.System.{State, ready, waiting, number, Slot, vacant, object, Sys, Op, invoke, both, dispatch, yield, expire, spawn, create, Answer, Reply, refuse, unless, serve, verdict, visited, called, answers, paired, step, after}
+use Rattle.system.specs.System.{State, ready, waiting, number, Slot, vacant, object, Sys, Op, invoke, both, dispatch, yield, expire, spawn, create, Answer, Reply, refuse, unless, serve, verdict, visited, called, answers, paired, step, after, thing}
 use Rattle.system.specs.Rules.{times, Fine, Start}
 use Rattle.system.specs.Run.{run}
 use Rattle.system.specs.Order.{Before, age, Best}

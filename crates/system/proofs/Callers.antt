@@ -9,7 +9,8 @@ use lib.ListN.{length, length-map}
 use borrow.Author.Tests.{lt-ltb, le-leb}
 use Rattle.thread.specs.Priority.{maxPriority, valid}
 use Rattle.wait_queue.specs.Queue.{ident}
-use Rattle.wait_queue.specs.Post.{Told, Listed}
+use Rattle.store.specs.Store.{Reply, out, fitting, reply, Did, Filled, first, Fills, Hands}
+use Rattle.store.proofs.Laws.{carry-out}
 use Rattle.kind.specs.Verdict.{keep, park, wake, Verdict, deny, allow}
 use Rattle.kind.specs.Kind.{Kind, Lawful}
 use Rattle.kind.specs.Object as object

@@ -18,9 +18,9 @@ use borrow.Author.Tests.{eq-eqb}
 use Rattle.thread.specs.Code.{enomem, ebusy}
 use Rattle.thread.specs.Caller.{callerCode}
 use Rattle.wait_queue.specs.Queue.{maxWaiters, entry, ident, holds, joined}
-use Rattle.wait_queue.specs.Turn.{refuse, waits, parked}
+use Rattle.wait_queue.specs.Turn.{waits, parked}
 use Rattle.system.specs.Sum.{mapped}
-use Rattle.system.specs.System.{State, running, waiting, number, Slot, Sys, deed, states, unless, upd, serve, outcome, verdict, visited, called}
+use Rattle.system.specs.System.{State, running, waiting, number, Slot, Sys, deed, states, unless, upd, serve, thing, outcome, verdict, visited, called}
 use Rattle.system.specs.Link.{fate}
 use Rattle.system.proofs.Calls.{runs, barred, granted}
 
@@ -62,7 +62,7 @@ fated-part f g a (allow n keep r) x = x
 fated-part f g a (allow n (park y) r) x = x
 fated-part f g a (allow n (wake p h) r) x = x
 
-parked-fate : (a : Bool) (o w : ℕ) (q : List ℕ) (x y : State) → a ≡ true → y ≡ waiting o → unless (parked w q .code) x y ≡ fate a o (parked w q .code) x
+parked-fate : (a : Bool) (o w : ℕ) (q : List ℕ) (x y : State) → a ≡ true → y ≡ waiting o → unless (store.answer (parked w q)) x y ≡ fate a o (store.answer (parked w q)) x
 parked-fate a o w q x y e z = go (holds (ident w) q) (ltb (length q) maxWaiters)
   where
     go : (b c : Bool) → unless (store.answer (cond b (store.refuse ebusy) (cond c (store.accept (joined w q) waits []) (store.refuse enomem)))) x y

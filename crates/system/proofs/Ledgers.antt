@@ -15,7 +15,7 @@ use Rattle.kind.specs.Kind.{Kind, Lawful, Booked, balanced}
 use Rattle.store.specs.Store as store
 use Rattle.kind.specs.Object.{Object, thread, carried}
 use Rattle.kind.proofs.Picks.{any-map, gone-map}
-use Rattle.system.specs.System.{number, Slot, vacant, object, Sys, Op, invoke, both, dispatch, yield, expire, spawn, create, Woken, Reply, reply, accept, refuse, free, deed, woken, unless, serve, outcome, verdict, visited, called, placed, answers, paired, step, after}
+use Rattle.system.specs.System.{number, Slot, vacant, object, Sys, Op, invoke, both, dispatch, yield, expire, spawn, create, Woken, Reply, reply, accept, refuse, free, deed, woken, unless, serve, thing, outcome, verdict, visited, called, placed, answers, paired, step, after}
 use Rattle.system.specs.Rules.{Fine, Start}
 use Rattle.system.specs.Run.{run}
 use Rattle.system.specs.Ledger as notes

@@ -4,7 +4,7 @@ use mathlib.Core.Path.{_≡_, refl}
 use mathlib.Core.Bool.{false}
 use mathlib.Core.Logic.{_⊎_, inl, inr}
 use mathlib.Core.List.{List}
-use Prim.Native.Nat.{ℕ, _<_}
+use Prim.Native.Nat.{ℕ}
 use native.Mathlib.Omega.{arith}
 use lib.ListN.{getD, set}
 use lib.Seq.{getD-set-other}
@@ -29,7 +29,6 @@ pub record Right {A : Kind} (c : Code A) : Type 1 where
   pub links : {K : Kind} → Lawful K → (P : Part A K) → Fits P → (f : c .Fn) → Links P (c .layout) (c .function f)
   pub told : (n : A .Num) → c .Told n → A .new n ≡ A .formed n false
   pub beside : (h : List ℕ) (k : ℕ) → c .layout .num (set h (c .layout .len) k) ≡ c .layout .num h
-  pub own : c .layout .len < c .layout .words
 
 pub record Stocked {M : Member} (a : Stock M) : Type 1 where
   pub fits : (x : a .Sort) {K : Kind} (P : Part (M .kind) K) → Fits P → Fits (a .part x P)
@@ -65,7 +64,6 @@ sem-right =
       links = λ law P h f. sem-links law P h f;
       told = λ n l. rw (lt-ltb (n .limit) 4294967296 l) refl;
       beside = λ h k. rw (other h 2 0 k (λ e. omega (arith, e)), other h 2 1 k (λ e. omega (arith, e))) refl;
-      own = omega arith;
     })
 
 mutex-right : Stocked mutexCode
@@ -75,11 +73,10 @@ mutex-right =
       links = λ law P h f. mutex-links law P h f;
       told = λ n e. rw e refl;
       beside = λ h k. rw (other h 3 0 k (λ e. omega (arith, e)), other h 3 1 k (λ e. omega (arith, e)), other h 3 2 k (λ e. omega (arith, e))) refl;
-      own = omega arith;
     })
 
 condvar-right : Stocked condvarCode
-condvar-right = single (record { links = λ law P h f. condvar-links law P h f; told = λ n e. refl; beside = λ h k. refl; own = omega arith })
+condvar-right = single (record { links = λ law P h f. condvar-links law P h f; told = λ n e. refl; beside = λ h k. refl })
 
 futex-right : Stocked futexCode
 futex-right =
@@ -88,7 +85,6 @@ futex-right =
       links = λ law P h f. futex-links law P h f;
       told = λ n l. lt-ltb (n .val) 4294967296 l;
       beside = λ h k. rw (other h 1 0 k (λ e. omega (arith, e))) refl;
-      own = omega arith;
     })
 
 no-code : (M : Member) → Stocked (without M)
@@ -115,7 +111,6 @@ linked =
           (stocked .fits aCondition (whole rtos) (whole-fits rtos));
       told = λ x n t. stocked .right x .told n t;
       beside = λ x h k. stocked .right x .beside h k;
-      own = λ x. stocked .right x .own;
     }
 
 -- the theorem, of the code of the four objects, whatever objects there are

@@ -14,11 +14,12 @@ use Rattle.thread.specs.Code.{ok, eagain, einval}
 use Rattle.thread.specs.Priority.{valid}
 use Rattle.thread.specs.Caller.{callerCode}
 use Rattle.wait_queue.specs.Queue.{maxWaiters, entry, ident, holds}
+use Rattle.store.specs.Store as store
 use Rattle.kind.specs.Verdict.{gone, keep, park, wake, Verdict, deny, allow}
 use Rattle.kind.specs.Kind.{Kind, Lawful, Right}
 use Rattle.kind.specs.Object.{thread, carried}
 use Rattle.kind.proofs.Picks.{any-map, gone-map}
-use Rattle.system.specs.System.{State, absent, running, ready, waiting, number, Slot, vacant, object, Sys, Op, invoke, both, dispatch, yield, expire, spawn, create, deed, wishes, unless, serve, outcome, verdict, visited, called, dispatched, yielded, expired, spawned, created, free, gone-by, answers, Answer, done, denied, reply, step, Woken, Reply, accept, refuse, paired, placed}
+use Rattle.system.specs.System.{State, absent, running, ready, waiting, number, Slot, vacant, object, Sys, Op, invoke, both, dispatch, yield, expire, spawn, create, deed, wishes, unless, serve, thing, outcome, verdict, visited, called, dispatched, yielded, expired, spawned, created, free, gone-by, answers, Answer, done, denied, reply, step, Woken, Reply, accept, refuse, paired, placed}
 use Rattle.system.specs.System as system
 use Rattle.system.specs.Rules.{Fine}
 use Rattle.system.specs.Life.{Calls, direct, former, latter, Life, stays, began, woken, late, back, aside, born}

@@ -15,11 +15,12 @@ use Rattle.seq.proofs.Sub.{sub-all, sub-sorted, others-sub}
 use Rattle.thread.specs.Caller.{callerCode}
 use Rattle.wait_queue.specs.Queue.{maxWaiters, entry, prio, ident, of, holds, joined, without, NoLower}
 use Rattle.wait_queue.proofs.Answers.{ident-entry}
+use Rattle.store.specs.Store as store
 use Rattle.kind.specs.Verdict.{keep, park, wake, Verdict, deny, allow}
 use Rattle.kind.specs.Kind.{Kind, Lawful}
 use Rattle.kind.specs.Object.{thread, carried}
 use Rattle.kind.proofs.Picks.{spared-sub}
-use Rattle.system.specs.System.{State, absent, running, ready, waiting, number, Slot, vacant, object, Sys, Op, invoke, both, dispatch, yield, expire, spawn, create, unless, serve, outcome, verdict, visited, called, dispatched, yielded, expired, spawned, created, free, gone-by, answers, step, after, Reply, refuse, paired}
+use Rattle.system.specs.System.{State, absent, running, ready, waiting, number, Slot, vacant, object, Sys, Op, invoke, both, dispatch, yield, expire, spawn, create, unless, serve, thing, outcome, verdict, visited, called, dispatched, yielded, expired, spawned, created, free, gone-by, answers, step, after, Reply, refuse, paired}
 use Rattle.thread.specs.Code.{einval}
 use Rattle.thread.specs.Priority.{valid}
 use Rattle.system.specs.Rules.{times, on, Fine, Start}

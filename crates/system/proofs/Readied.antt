@@ -10,11 +10,12 @@ use lib.ListN.{length}
 use borrow.Author.Tests.{eq-eqb, ne-eqb}
 use Rattle.seq.specs.List.{All}
 use Rattle.wait_queue.specs.Queue.{ident, holds}
+use Rattle.store.specs.Store as store
 use Rattle.kind.specs.Verdict.{Pick, gone, keep, park, wake, Verdict, deny, allow}
 use Rattle.kind.specs.Kind.{Kind}
 use Rattle.system.specs.System.{ready, Slot, object, Sys, Woken, deed, woken, unless, serve, outcome, verdict, visited, called, running}
 use Rattle.system.specs.Link.{read, word, Readies}
-use Rattle.wait_queue.specs.Post.{Told}
+use Rattle.store.specs.Store.{first}
 
 module _ {K : Kind} (s : Sys K) (i o : ℕ) (k : K .Call) (n : K .Num) (h : s .slot o ≡ object n) where
   abbrev q : List ℕ
@@ -71,7 +72,7 @@ readies-on s t u i l [] run z a b = record { ready = all l (a .ready); others = 
     cut (w ∷ l) x y = (y .0, cut l x (y .1))
 
 -- the words of both
-pub told-on : (l m : List Woken) (w w' : ℕ) → length m ≤ 0 → Told (map word l) w w' → Told (map word (l ++ m)) w w'
+pub told-on : (l m : List Woken) (w w' : ℕ) → length m ≤ 0 → w' ≡ first w (map word l) → w' ≡ first w (map word (l ++ m))
 told-on l (y ∷ m) w w' z t = absurd (omega (arith, z))
 told-on [] [] w w' z t = t
 told-on (x ∷ l) [] w w' z t = t

@@ -12,7 +12,7 @@ use Rattle.thread.specs.Code.{enomem, ebusy}
 use Rattle.thread.specs.Caller.{callerCode}
 use Rattle.wait_queue.specs.Queue.{maxWaiters, entry, ident, holds, joined}
 use Rattle.wait_queue.specs.Queue as queue
-use Rattle.wait_queue.specs.Turn.{refuse, waits, parked}
+use Rattle.wait_queue.specs.Turn.{waits, parked}
 use Rattle.wait_queue.proofs.Answers.{ident-entry}
 use Rattle.wait_queue.proofs.Insertion.{prio-entry}
 use Rattle.kind.specs.Verdict.{gone, keep, park, wake, Verdict, deny, allow}
@@ -20,7 +20,7 @@ use Rattle.kind.specs.Kind.{Kind}
 use Rattle.store.specs.Store as store
 use Rattle.kind.specs.Object.{Object, thread, carried}
 use Rattle.system.specs.Sum.{mapped}
-use Rattle.system.specs.System.{number, Slot, object, Sys, Woken, deed, woken, unless, outcome, verdict, visited, called}
+use Rattle.system.specs.System.{number, Slot, object, Sys, Woken, deed, woken, unless, thing, outcome, verdict, visited, called}
 use Rattle.system.specs.Rules.{Fine}
 use Rattle.system.specs.Functions.{heard}
 use Rattle.system.specs.Link.{signed, read, word}
@@ -49,18 +49,18 @@ module _ (m c : ℕ → ℕ) (q : List ℕ) where
   within-part f g (allow n (wake p h) (negsuc r)) x = absurd x
 
 -- who waits wakes nobody
-pub parked-none : (w : ℕ) (q : List ℕ) → parked w q .woken ≡ []
+pub parked-none : (w : ℕ) (q : List ℕ) → store.out (parked w q) ≡ []
 parked-none w q = go (holds (ident w) q) (ltb (length q) maxWaiters)
   where
-    go : (a b : Bool) → cond a (refuse ebusy q) (cond b (record { code = waits; queue = joined w q; woken = [] }) (refuse enomem q)) .woken ≡ []
+    go : (a b : Bool) → store.out (cond a (store.refuse ebusy) (cond b (store.accept (joined w q) waits []) (store.refuse enomem))) ≡ []
     go true b = refl
     go false true = refl
     go false false = refl
 
-parked-heard : (c : ℕ → ℕ) (w : ℕ) (q : List ℕ) → c 1 ≡ 0 → heard c (parked w q .code) ≡ 0
+parked-heard : (c : ℕ → ℕ) (w : ℕ) (q : List ℕ) → c 1 ≡ 0 → heard c (store.answer (parked w q)) ≡ 0
 parked-heard c w q x = go (holds (ident w) q) (ltb (length q) maxWaiters)
   where
-    go : (a b : Bool) → heard c (cond a (refuse ebusy q) (cond b (record { code = waits; queue = joined w q; woken = [] }) (refuse enomem q)) .code) ≡ 0
+    go : (a b : Bool) → heard c (store.answer (cond a (store.refuse ebusy) (cond b (store.accept (joined w q) waits []) (store.refuse enomem)))) ≡ 0
     go true b = refl
     go false true = x
     go false false = refl

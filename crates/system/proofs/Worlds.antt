@@ -2,14 +2,14 @@
 use mathlib.Core.Path.{_≡_, refl, sym, subst, ap, _∙_}
 use mathlib.Core.Bool.{false}
 use mathlib.Core.List.{List, [], _∷_}
-use Prim.Native.Nat.{ℕ, _<_}
+use Prim.Native.Nat.{ℕ}
 use native.Mathlib.Omega.{arith}
 use lib.IntN.{ℤ, pos, negsuc}
 use lib.ListN.{set}
 use borrow.Author.Tests.{eq-eqb, ne-eqb}
 use Rattle.thread.specs.Code.{ok, eagain}
 use Rattle.kind.specs.Kind.{Kind, Lawful}
-use Rattle.condvar.specs.Post.{Allowed}
+use Rattle.store.specs.Store.{Allowed}
 use Rattle.system.specs.System.{State, ready, Sys, expired, both, expire, create, left, created, done, reply, step, after, called}
 use Rattle.system.specs.Rules.{Fine}
 use Rattle.system.specs.Functions.{Memory}
@@ -34,7 +34,6 @@ pub record Linked {K : Kind} (C : Library K) : Type 0 where
       (C .class (C .second t) .code .layout) (C .double t)
   pub told : (x : C .Sort) (n : C .class x .kind .Num) → C .class x .code .Told n → C .class x .kind .new n ≡ C .class x .kind .formed n false
   pub beside : (x : C .Sort) (h : List ℕ) (k : ℕ) → C .class x .code .layout .num (set h (C .class x .code .layout .len) k) ≡ C .class x .code .layout .num h
-  pub own : (x : C .Sort) → C .class x .code .layout .len < C .class x .code .layout .words
 
 module _ {K : Kind} (C : Library K) (linked : Linked C) (sort : ℕ → C .Sort) where
   -- one event
@@ -99,7 +98,7 @@ module _ {K : Kind} (C : Library K) (linked : Linked C) (sort : ℕ → C .Sort)
     happened e (removes i o n r k state there d header) off =
         let L = C .class (sort o) .code .layout in
         let num = C .class (sort o) .part .num in
-        let x = expires L num (linked .beside (sort o)) (linked .own (sort o)) s g i o (w o .header) (w o .entries) (shows o n there) state r k
+        let x = expires L num (linked .beside (sort o)) s g i o (w o .header) (w o .entries) (shows o n there) state r k
         (w' o .entries) d in
         let c : reply r ≡ done ok = subst (λ (y : State). reply r ≡ expired y s i .1) state (x .code) in
         let m : Allowed r (Is L num (left s i o) o (set (w o .header) (L .len) k) (w' o .entries)) =
