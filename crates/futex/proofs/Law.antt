@@ -9,10 +9,14 @@ use Rattle.wait_queue.specs.Turn.{waits}
 use Rattle.kind.specs.Verdict.{park, deny, allow}
 use Rattle.kind.specs.Kind.{Lawful, Sound, Right, Booked}
 use Rattle.kind.proofs.Picks.{all-of}
+use Rattle.kind.specs.Object.{Object}
 use Rattle.futex.specs.Futex.{Futex, Call, wait, wakeOne, wakeAll, set, decide, futex-kind}
 
 abbrev pub mk : ℕ → Futex
 mk x = record { val = x }
+
+abbrev pub obj : ℕ → List ℕ → Object Futex
+obj x q = record { num = mk x; queue = q }
 
 sound : (x : ℕ) (v : ℕ → Unit {0}) (q : List ℕ) (w : ℕ) (k : Call) → Sound futex-kind q (decide (mk x) v q w k)
 sound x v q w (wait y) = go (eqb x y)

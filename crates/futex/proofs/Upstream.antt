@@ -15,23 +15,27 @@ use Rattle.seq.proofs.Order.{clash, length-insert}
 use Rattle.thread.specs.Code.{ok, eagain, einval}
 use Rattle.thread.specs.Priority.{maxPriority}
 use Rattle.thread.specs.Thread.{running}
+use Rattle.store.specs.Store.{refuse, accept, answer, left, out, reply}
+use Rattle.store.proofs.Laws.{kept}
 use Rattle.wait_queue.specs.Queue.{maxWaiters, entry, prio, ident, woken, waiting, roomy, holds, joined, Well}
 use Rattle.wait_queue.specs.Turn.{waits}
 use Rattle.wait_queue.specs.Upstream.{AllAreWoken}
-use Rattle.wait_queue.proofs.Memory.{is-roomy}
+use Rattle.wait_queue.proofs.Memory.{is-roomy, blank, blank-roomy}
 use Rattle.wait_queue.proofs.Answers.{ident-entry}
 use Rattle.wait_queue.proofs.Well.{well-empty}
 use Rattle.kind.specs.Kind.{plain}
-use Rattle.kind.specs.Object.{Out, refused, anyone, on, sane}
-use Rattle.kind.specs.History.{Object, Event, calls, asks, happens, next}
-use Rattle.kind.proofs.Memory.{Housed, is-on, malformed, shown, unchanged, barred}
-use Rattle.kind.proofs.Answers.{handed-no}
+use Rattle.kind.specs.Object.{Object, anyone, sane}
+use Rattle.kind.specs.History.{Event, calls, asks, next}
+use Rattle.kind.proofs.Memory.{Housed, is-on, malformed, shown}
+use Rattle.kind.proofs.Answers.{fitting-no}
+use Rattle.kind.proofs.Forward.{leaves, housed-sane, all-woken-by, short-by}
 use Rattle.kind.proofs.Histories.{step}
-use Rattle.futex.specs.Futex.{Futex, Call, wait, wakeOne, futex-kind}
-use Rattle.futex.specs.Post.{layout, waitOut, wakeCall, wakeOut, setOut, getOut, Starts, Waits, Wakes, SetsVal, GetsVal, CountsWaiters, WaitDecided, WakeDecided}
+use Rattle.futex.specs.Futex.{Futex, Call, wait, wakeOne, wakeAll, futex-kind}
+use Rattle.futex.specs.Post.{layout, place, waitOut, wakeCall, wakeOut, setOut, Starts, Waits, Wakes, SetsVal, Gets, GetsVal, CountsWaiters, WaitDecided, WakeDecided}
 use Rattle.futex.specs.History.{after}
 use Rattle.futex.specs.Upstream.{Inv, Init, Wait, Wake, WakeFew, FirstWoken, ValSet, ValGet, NumWaiters, WaitDecide, WakeDecide, Gating, WakeSemantics, Roundtrip, Bounded}
-use Rattle.futex.proofs.Law.{mk, futex-lawful}
+use Rattle.futex.proofs.Law.{mk, obj, futex-lawful}
+use Rattle.futex.proofs.Answers.{got-no, got}
 
 -- decide functions
 pub wait-decide : (v x : ℕ) (r : ℤ) → WaitDecided v x r → WaitDecide v x r
@@ -51,15 +55,15 @@ module _ (n : ℕ) (b : Bool) (m : ℕ) (r : ℤ) (m' : ℕ) (d : WakeDecided n 
   wake-decide-refuses k =
       let z = d (mk 0) (row n) (length-row n) in
       let y = lt-leb n maxWaiters k in
-      (z .0 ∙ rw y, z .1 ∙ rw y)
+      (z .code ∙ rw y, z .number ∙ rw y)
 
 pub wake-decide : (n : ℕ) (b : Bool) (m : ℕ) (r : ℤ) (m' : ℕ) → n ≤ maxWaiters → WakeDecided n b m r m' → WakeDecide n b r m'
 wake-decide zero true m r m' k d =
     let z = d (mk 0) [] refl in
     let y = le-leb 0 maxWaiters k in
     record {
-      none-woken = λ e. z .0 ∙ rw y;
-      none-remaining = λ e. z .1 ∙ rw y;
+      none-woken = λ e. z .code ∙ rw y;
+      none-remaining = λ e. z .number ∙ rw y;
       all-woken = λ e l. absurd (omega arith);
       all-remaining = λ e l. absurd (omega arith);
       one-woken = λ e. clash e;
@@ -69,8 +73,8 @@ wake-decide zero false m r m' k d =
     let z = d (mk 0) [] refl in
     let y = le-leb 0 maxWaiters k in
     record {
-      none-woken = λ e. z .0 ∙ rw y;
-      none-remaining = λ e. z .1 ∙ rw y;
+      none-woken = λ e. z .code ∙ rw y;
+      none-remaining = λ e. z .number ∙ rw y;
       all-woken = λ e. clash (sym e);
       all-remaining = λ e. clash (sym e);
       one-woken = λ e l. absurd (omega arith);
@@ -82,8 +86,8 @@ wake-decide (suc n) true m r m' k d =
     record {
       none-woken = λ e. absurd (omega arith);
       none-remaining = λ e. absurd (omega arith);
-      all-woken = λ e l. z .0 ∙ rw (y, length-map (row n) ident, length-row n);
-      all-remaining = λ e l. z .1 ∙ rw y;
+      all-woken = λ e l. z .code ∙ rw (y, length-map (row n) ident, length-row n);
+      all-remaining = λ e l. z .number ∙ rw y;
       one-woken = λ e. clash e;
       one-remaining = λ e. clash e;
     }
@@ -96,86 +100,94 @@ wake-decide (suc n) false m r m' k d =
       none-remaining = λ e. absurd (omega arith);
       all-woken = λ e. clash (sym e);
       all-remaining = λ e. clash (sym e);
-      one-woken = λ e l. z .0 ∙ rw y;
-      one-remaining = λ e l. z .1 ∙ rw (y, length-row n) x;
+      one-woken = λ e l. z .code ∙ rw y;
+      one-remaining = λ e l. z .number ∙ rw (y, length-row n) x;
     }
 
 -- the invariant holds after an event, too
-inv-after : (v : ℕ) (q : List ℕ) → Inv q → (x : Event Call) → Inv (happens futex-kind plain (record { num = mk v; queue = q }) x .turn .queue)
-inv-after v q g x = step futex-kind futex-lawful plain (record { num = mk v; queue = q }) x (record { numbers = refl; queue = g }) .queue
+inv-after : (v : ℕ) (q : List ℕ) → Inv q → (x : Event Call) → Inv (next futex-kind plain (obj v q) x .queue)
+inv-after v q g x = step futex-kind futex-lawful plain (obj v q) x (record { numbers = refl; queue = g }) .queue
 
 -- init
 pub futex-init : (val : ℕ) (h : List ℕ) (r : ℤ) (h' e : List ℕ) → 2 ≤ length h → Starts val h r h' → (r ≡ ok) × Init val (layout .num h') (waiting e (getD h' 1 0))
 futex-init val h r h' e k s =
-    let c : r ≡ ok = s .code ∙ rw (le-leb 2 (length h) k) in
-    let m = s .made c in
-    (c, record { inv = rw (m .1 e) well-empty; val = ap (λ (x : Futex). x .val) (m .0); empty = ap length (m .1 e) })
+    let t = s blank blank-roomy in
+    let c : r ≡ ok = t .code ∙ rw (le-leb 2 (length h) k) in
+    let o = t .made c .object in
+    let n : getD h' 1 0 ≡ 0 = sym (back-length blank (getD h' 1 0)) ∙ ap (λ (x : Object Futex). length (x .queue)) o in
+    (c, record { inv = rw n well-empty; val = ap (λ (x : Object Futex). x .num .val) o; empty = rw n refl })
 
 -- wait: another value than the expected one
-other-value : (x i p v : ℕ) (q : List ℕ) → p < maxPriority → (v ≡ x → ⊥) → waitOut x i p running (mk v) q ≡ refused eagain (mk v) q
+other-value : (x i p v : ℕ) (q : List ℕ) → p < maxPriority → (v ≡ x → ⊥) → waitOut x i p running (obj v q) ≡ refuse eagain
 other-value x i p v q valid n = rw (lt-ltb p maxPriority valid, ne-eqb v x n)
 
 module _ (x i p v : ℕ) (q : List ℕ) (small : i < 4294967296) (valid : p < maxPriority) where
   module _ (is : v ≡ x) where
     -- the value is the expected one, and there is a place
     wait-joins : length q < maxWaiters → holds i q ≡ false
-        → waitOut x i p running (mk v) q ≡ record { num = mk v; turn = record { code = waits; queue = joined (entry p i) q; woken = [] } }
+        → waitOut x i p running (obj v q) ≡ accept (obj v (joined (entry p i) q)) waits []
     wait-joins room absent = rw (lt-ltb p maxPriority valid, eq-eqb v x is, ident-entry p i small, absent, lt-ltb (length q) maxWaiters room)
 
   module _ (room : length q < maxWaiters) (absent : holds i q ≡ false) where
-    pub wait-gating-condition : Gating x i p (mk v) q
+    pub wait-gating-condition : Gating x i p (obj v q)
     wait-gating-condition = record { blocks = λ z. wait-joins z room absent; returns = λ n. other-value x i p v q valid n }
 
-    waits-here : Inv q → Wait x (mk v) q (waitOut x i p running (mk v) q .turn .code) (waitOut x i p running (mk v) q .num) (waitOut x i p running (mk v) q .turn .queue)
+    abbrev WaitMet : Type 0
+    WaitMet =
+        Wait x (mk v) q (answer (waitOut x i p running (obj v q))) (left (waitOut x i p running (obj v q)) (obj v q) .num)
+        (left (waitOut x i p running (obj v q)) (obj v q) .queue)
+
+    waits-here : Inv q → WaitMet
     waits-here g = go (eqb v x) refl
       where
-        go : (b : Bool) → eqb v x ≡ b
-            → Wait x (mk v) q (waitOut x i p running (mk v) q .turn .code) (waitOut x i p running (mk v) q .num) (waitOut x i p running (mk v) q .turn .queue)
+        go : (b : Bool) → eqb v x ≡ b → WaitMet
         go true y =
             let z : v ≡ x = eqb-true v x y in
             let t = wait-joins z room absent in
-            record {
-              inv = inv-after v q g (asks i p running small (wait x));
-              val = ap (λ (o : Out Futex). o .num .val) t;
-              blocked = λ k. ap (λ (o : Out Futex). o .turn .code) t;
-              joined = λ k. ap (λ (o : Out Futex). length (o .turn .queue)) t ∙ length-insert prio (entry p i) q ∙ sym (add-one (length q));
+            rw t
+            (record {
+              inv = rw t at (inv-after v q g (asks i p running small (wait x)));
+              val = refl;
+              blocked = λ k. refl;
+              joined = λ k. length-insert prio (entry p i) q ∙ sym (add-one (length q));
               mismatch = λ k. absurd (k z);
               stayed = λ k. absurd (k z);
-            }
+            })
         go false y =
             let z : v ≡ x → ⊥ = eqb-false v x y in
-            let t = other-value x i p v q valid z in
-            record {
-              inv = inv-after v q g (asks i p running small (wait x));
-              val = ap (λ (o : Out Futex). o .num .val) t;
+            rw (other-value x i p v q valid z)
+            (record {
+              inv = g;
+              val = refl;
               blocked = λ k. absurd (z k);
               joined = λ k. absurd (z k);
-              mismatch = λ k. ap (λ (o : Out Futex). o .turn .code) t;
-              stayed = λ k. ap (λ (o : Out Futex). length (o .turn .queue)) t;
-            }
+              mismatch = λ k. refl;
+              stayed = λ k. refl;
+            })
 
 -- wake: all, with room for all that wait
 wakes-all : (room v : ℕ) (q : List ℕ) → length q ≤ room
-    → wakeOut true room (mk v) q ≡ record { num = mk v; turn = record { code = pos (length q); queue = []; woken = map (woken ok) q } }
+    → wakeOut true room (obj v q) ≡ accept (obj v []) (pos (length q)) (map (woken ok) q)
 wakes-all room v q k = rw (length-map q (woken ok), le-leb (length q) room k, length-map q ident)
 
-wakes-none : (room v : ℕ) (q : List ℕ) → room < length q → wakeOut true room (mk v) q ≡ refused einval (mk v) q
+wakes-none : (room v : ℕ) (q : List ℕ) → room < length q → wakeOut true room (obj v q) ≡ refuse einval
 wakes-none room v q k = rw (length-map q (woken ok), lt-leb (length q) room k)
 
 -- one, with room for one
 wakes-first : (room v x : ℕ) (q : List ℕ) → 0 < room
-    → wakeOut false room (mk v) (x ∷ q) ≡ record { num = mk v; turn = record { code = pos 1; queue = q; woken = woken ok x ∷ [] } }
+    → wakeOut false room (obj v (x ∷ q)) ≡ accept (obj v q) (pos 1) (woken ok x ∷ [])
 wakes-first room v x q k = rw (le-leb 1 room k)
 
-wakes-no-first : (room v x : ℕ) (q : List ℕ) → room < 1 → wakeOut false room (mk v) (x ∷ q) ≡ refused einval (mk v) (x ∷ q)
+wakes-no-first : (room v x : ℕ) (q : List ℕ) → room < 1 → wakeOut false room (obj v (x ∷ q)) ≡ refuse einval
 wakes-no-first room v x q k = rw (lt-leb 1 room k)
 
 -- nobody
-wakes-nobody : (room v : ℕ) → wakeOut false room (mk v) [] ≡ record { num = mk v; turn = record { code = pos 0; queue = []; woken = [] } }
+wakes-nobody : (room v : ℕ) → wakeOut false room (obj v []) ≡ accept (obj v []) (pos 0) []
 wakes-nobody room v = let z : 0 ≤ room = omega arith in rw (le-leb 0 room z)
 
 abbrev WakeMet : Bool → ℕ → ℕ → List ℕ → Type 0
-WakeMet b room v q = Wake b (mk v) q (wakeOut b room (mk v) q .turn .code) (wakeOut b room (mk v) q .num) (wakeOut b room (mk v) q .turn .queue)
+WakeMet b room v q =
+    Wake b (mk v) q (answer (wakeOut b room (obj v q))) (left (wakeOut b room (obj v q)) (obj v q) .num) (left (wakeOut b room (obj v q)) (obj v q) .queue)
 
 -- for one that is woken, one word of room is enough
 wakes : (b : Bool) (room v : ℕ) (q : List ℕ) → Inv q → (b ≡ true → length q ≤ room) → (b ≡ false → 0 < length q → 0 < room) → WakeMet b room v q
@@ -238,6 +250,9 @@ module _ (h e : List ℕ) (r : ℤ) (h' : List ℕ) (m : Housed layout h e) wher
   abbrev queue : List ℕ
   queue = waiting e (getD h 1 0)
 
+  whole : sane futex-kind layout h e ≡ true
+  whole = housed-sane futex-kind layout h e m refl
+
   module _ (g : Inv (waiting e (getD h 1 0))) where
     pub futex-wait : (x i p : ℕ) (e' : List ℕ) → i < 4294967296 → p < maxPriority → length (waiting e (getD h 1 0)) < maxWaiters → holds i (waiting e (getD h 1 0)) ≡ false
         → Waits x i p running h e r h' e' → Wait x (layout .num h) (waiting e (getD h 1 0)) r (layout .num h') (waiting e' (getD h' 1 0))
@@ -254,51 +269,44 @@ module _ (h e : List ℕ) (r : ℤ) (h' : List ℕ) (m : Housed layout h e) wher
     pub first-woken : (x : ℕ) (q out out' : List ℕ) → waiting e (getD h 1 0) ≡ x ∷ q → 0 < length out → Wakes false h e out r h' out'
         → FirstWoken x q out out' (waiting e (getD h' 1 0))
     first-woken x q out out' l k d =
-        let y : on layout (wakeOut false (length out)) h e ≡ record { num = mk val; turn = record { code = pos 1; queue = q; woken = woken ok x ∷ [] } } =
-        rw (is-on layout (wakeOut false (length out)) h e m, l) (wakes-first (length out) val x q k) in
+        let y : reply place (wakeOut false (length out)) h e ≡ accept (obj val q) (pos 1) (woken ok x ∷ []) =
+        is-on layout (wakeOut false (length out)) h e m ∙ rw l (wakes-first (length out) val x q k) in
         let u : Well (x ∷ q) = rw l at g in
-        record { told = rw y at (d .1); others = d .0 .queue ∙ rw y refl; highest = u .sorted .0 }
+        record { told = rw y at (d .1); others = leaves layout (wakeOut false (length out)) h e r h' e (d .0) y .queue; highest = u .sorted .0 }
 
     pub futex-val-set : (x : ℕ) → SetsVal x h e r h' → (r ≡ ok) × ValSet x (waiting e (getD h 1 0)) (layout .num h') (waiting e (getD h' 1 0))
     futex-val-set x d =
         shown layout (setOut x) (λ c n q. (c ≡ ok) × ValSet x (waiting e (getD h 1 0)) n q) h e r h' e d m (refl, record { inv = g; val = refl; waiters = refl })
 
   pub all-woken : (out out' : List ℕ) → length (waiting e (getD h 1 0)) ≤ length out → Wakes true h e out r h' out' → AllAreWoken ok (waiting e (getD h 1 0)) out out'
-  all-woken out out' k d = d .1 ∙ rw (is-on layout (wakeOut true (length out)) h e m, wakes-all (length out) val queue k, length-map queue (woken ok)) refl
-
-  gets : (g : Futex → List ℕ → ℕ) → r ≡ on layout (getOut g) h e .turn .code → r ≡ pos (g (layout .num h) (waiting e (getD h 1 0)))
-  gets g d = d ∙ rw (is-on layout (getOut g) h e m)
+  all-woken out out' k d = all-woken-by futex-kind layout plain anyone wakeAll h e whole r h' e 0 refl (layout .num h) ok _ refl out out' k (d .0) (d .1) .1
 
   pub val-get : GetsVal h e r → ValGet (layout .num h) r
-  val-get d = gets (λ s q. s .val) d
+  val-get d = d ∙ sym (got h e whole (λ s. s .num .val))
 
   pub num-waiters : CountsWaiters h e r → NumWaiters (waiting e (getD h 1 0)) r
-  num-waiters d = gets (λ s q. length q) d
+  num-waiters d = d ∙ sym (got h e whole (λ s. length (s .queue)))
 
   abbrev Stays : ℤ → Type 0
   Stays c = (r ≡ c) × (h' ≡ h)
 
-  read : {c : ℤ} → (r ≡ c) × (h' ≡ h) × (e ≡ e) → Stays c
-  read k = (k .0, k .1)
-
   -- upstream needs no room; with too little a wake is refused, and all wait on
   pub wake-all-short : (out out' : List ℕ) → length out < length (waiting e (getD h 1 0)) → Wakes true h e out r h' out' → Stays einval
   wake-all-short out out' k d =
-      read
-      (unchanged layout (wakeOut true (length out)) h e r h' e 21 (d .0)
-      (rw (is-on layout (wakeOut true (length out)) h e m, wakes-none (length out) val queue k)))
+      let b = short-by futex-kind layout plain anyone wakeAll h e whole r h' e 0 refl (layout .num h) ok _ refl out out' k (d .0) (d .1) .0 in
+      (b .code, b .header)
 
   pub wake-one-short : (x : ℕ) (q out out' : List ℕ) → waiting e (getD h 1 0) ≡ x ∷ q → length out < 1 → Wakes false h e out r h' out' → Stays einval
   wake-one-short x q out out' l k d =
-      read
-      (unchanged layout (wakeOut false (length out)) h e r h' e 21 (d .0)
-      (rw (is-on layout (wakeOut false (length out)) h e m, l, wakes-no-first (length out) val x q k)))
+      let f = wakeOut false (length out) in
+      let b = kept place f h e (d .0) {c = einval} (is-on layout f h e m ∙ rw l (wakes-no-first (length out) val x q k)) in
+      (b .0, b .1)
 
   -- upstream demands of every wait that there is a place and that the thread is not here. With another value neither is looked at
   pub wait-mismatch : (x i p : ℕ) (e' : List ℕ) → p < maxPriority → (getD h 0 0 ≡ x → ⊥) → Waits x i p running h e r h' e'
       → (r ≡ eagain) × (h' ≡ h) × (e' ≡ e)
   wait-mismatch x i p e' valid n d =
-      unchanged layout (waitOut x i p running) h e r h' e' 10 d (rw (is-on layout (waitOut x i p running) h e m, other-value x i p val queue valid n))
+      kept place (waitOut x i p running) h e d (is-on layout (waitOut x i p running) h e m ∙ other-value x i p val queue valid n)
 
 -- what upstream demands is refused here: more that wait than can, or too little memory
 module _ (h e : List ℕ) (r : ℤ) (h' : List ℕ) (s : sane futex-kind layout h e ≡ false) where
@@ -309,20 +317,24 @@ module _ (h e : List ℕ) (r : ℤ) (h' : List ℕ) (s : sane futex-kind layout 
   same k = (k .0, k .1)
 
   pub wait-refuses : (x i p st : ℕ) (e' : List ℕ) → Waits x i p st h e r h' e' → Same × (e' ≡ e)
-  wait-refuses x i p st e' d = let k = barred futex-kind layout h e (waitOut x i p st) r h' e' (λ n q z. clash z) s d in ((k .0, k .1), k .2)
+  wait-refuses x i p st e' d =
+      let k = kept place (waitOut x i p st) h e d (malformed futex-kind layout h e (waitOut x i p st) (λ o z. clash z) s) in
+      ((k .0, k .1), k .2)
 
   pub wake-refuses : (b : Bool) (out out' : List ℕ) → Wakes b h e out r h' out' → Same
   wake-refuses b out out' d =
-      same (barred futex-kind layout h e (wakeOut b (length out)) r h' e (handed-no futex-kind plain anyone (wakeCall b) (length out)) s (d .0))
+      same
+      (kept place (wakeOut b (length out)) h e (d .0)
+      (malformed futex-kind layout h e (wakeOut b (length out)) (fitting-no futex-kind plain anyone (wakeCall b) (length out)) s))
 
   pub set-refuses : (x : ℕ) → SetsVal x h e r h' → Same
-  set-refuses x d = same (barred futex-kind layout h e (setOut x) r h' e (λ n q z. clash z) s d)
+  set-refuses x d = same (kept place (setOut x) h e d (malformed futex-kind layout h e (setOut x) (λ o z. clash z) s))
 
-  pub get-refuses : (g : Futex → List ℕ → ℕ) → r ≡ on layout (getOut g) h e .turn .code → r ≡ einval
-  get-refuses g d = d ∙ ap (λ (o : Out Futex). o .turn .code) (malformed futex-kind layout h e (getOut g) (λ n q z. clash z) s)
+  pub get-refuses : (g : Object Futex → ℕ) → Gets g h e r → r ≡ einval
+  get-refuses g d = d ∙ sym (got-no h e g s)
 
 -- upstream's lemmas
-pub wake-semantics : (v : ℕ) (q : List ℕ) (room : ℕ) → WakeSemantics (mk v) q room
+pub wake-semantics : (v : ℕ) (q : List ℕ) (room : ℕ) → WakeSemantics (obj v q) room
 wake-semantics v q room =
     record {
       one = few q (leb 1 room) refl;
@@ -331,17 +343,19 @@ wake-semantics v q room =
       all-lost = every (leb (length q) room) refl;
     }
   where
-    few : (l : List ℕ) (b : Bool) → leb 1 room ≡ b → length (wakeOut false room (mk v) l .turn .woken) ≤ 1
+    few : (l : List ℕ) (b : Bool) → leb 1 room ≡ b → length (out (wakeOut false room (obj v l))) ≤ 1
     few [] b z = rw (wakes-nobody room v) (omega arith)
     few (x ∷ l) true z = rw z (omega arith)
     few (x ∷ l) false z = rw z (omega arith)
 
-    kept : (l : List ℕ) (b : Bool) → leb 1 room ≡ b → length (wakeOut false room (mk v) l .turn .woken) + length (wakeOut false room (mk v) l .turn .queue) ≡ length l
+    kept : (l : List ℕ) (b : Bool) → leb 1 room ≡ b
+        → length (out (wakeOut false room (obj v l))) + length (left (wakeOut false room (obj v l)) (obj v l) .queue) ≡ length l
     kept [] b z = rw (wakes-nobody room v)
     kept (x ∷ l) true z = rw z (omega arith)
     kept (x ∷ l) false z = rw z (omega arith)
 
-    every : (b : Bool) → leb (length q) room ≡ b → length (wakeOut true room (mk v) q .turn .woken) + length (wakeOut true room (mk v) q .turn .queue) ≡ length q
+    every : (b : Bool) → leb (length q) room ≡ b
+        → length (out (wakeOut true room (obj v q))) + length (left (wakeOut true room (obj v q)) (obj v q) .queue) ≡ length q
     every true z = rw (wakes-all room v q (leb-true (length q) room z), length-map q (woken ok)) (omega arith)
     every false z = rw (wakes-none room v q (leb-false (length q) room z)) (omega arith)
 
@@ -352,7 +366,7 @@ some-place = omega arith
 pub wait-wake-roundtrip : (v i p : ℕ) (small : i < 4294967296) → p < maxPriority → Roundtrip v i p small
 wait-wake-roundtrip v i p small valid =
     let t = wait-joins v i p v [] small valid refl some-place refl in
-    let q : after v (asks i p running small (wait v) ∷ []) ≡ record { num = mk v; queue = entry p i ∷ [] } = rw t in
+    let q : after v (asks i p running small (wait v) ∷ []) ≡ obj v (entry p i ∷ []) = rw t in
     record {
       waited = rw t;
       queued = q;
@@ -365,7 +379,7 @@ module _ (room v n : ℕ) where
   refused-wakes : {P : Type 0} (k : ℕ) → negsuc k ≡ pos n → P
   refused-wakes k z = absurd (let y : _≡_ {A = ℕ} 0 1 = cc in omega arith)
 
-  at-most : (b : Bool) (q : List ℕ) → wakeOut b room (mk v) q .turn .code ≡ pos n → n ≤ length q
+  at-most : (b : Bool) (q : List ℕ) → answer (wakeOut b room (obj v q)) ≡ pos n → n ≤ length q
   at-most true q z = go (leb (length q) room) refl
     where
       go : (c : Bool) → leb (length q) room ≡ c → n ≤ length q
@@ -379,7 +393,7 @@ module _ (room v n : ℕ) where
       go false y = refused-wakes 21 (rw y at z)
 
   -- one at most
-  one-at-most : (q : List ℕ) → wakeOut false room (mk v) q .turn .code ≡ pos n → n ≤ 1
+  one-at-most : (q : List ℕ) → answer (wakeOut false room (obj v q)) ≡ pos n → n ≤ 1
   one-at-most [] z = let x : 0 ≡ n = ap mag (rw (wakes-nobody room v) at z) in omega arith
   one-at-most (t ∷ q) z = go (leb 1 room) refl
     where
@@ -394,7 +408,7 @@ few-enough = omega arith
 -- of any memory
 module _ (b : Bool) (room : ℕ) (h e : List ℕ) where
   abbrev Answers : ℕ → Type 0
-  Answers n = on layout (wakeOut b room) h e .turn .code ≡ pos n
+  Answers n = answer (reply place (wakeOut b room) h e) ≡ pos n
 
   -- one that is not as it should be is refused
   housed : (n : ℕ) → Answers n → Housed layout h e
@@ -405,7 +419,7 @@ module _ (b : Bool) (room : ℕ) (h e : List ℕ) where
       go true false x y = refused-wakes room 0 n 21 (rw (x, y) at z)
       go true true x y = record { words = leb-true 2 (length h) x; room = y }
 
-  told : (n : ℕ) (z : Answers n) → wakeOut b room (layout .num h) (waiting e (getD h 1 0)) .turn .code ≡ pos n
+  told : (n : ℕ) (z : Answers n) → answer (wakeOut b room (place .object h e)) ≡ pos n
   told n z = rw (is-on layout (wakeOut b room) h e (housed n z)) at z
 
   within : (n : ℕ) → Answers n → n ≤ maxWaiters
@@ -423,5 +437,5 @@ wake-few b h e out r h' out' d =
       bounded = λ n z. within b (length out) h e n (sym (d .0 .code) ∙ z);
     }
   where
-    lone : b ≡ false → (n : ℕ) → wakeOut b (length out) (layout .num h) (waiting e (getD h 1 0)) .turn .code ≡ pos n → n ≤ 1
+    lone : b ≡ false → (n : ℕ) → answer (wakeOut b (length out) (place .object h e)) ≡ pos n → n ≤ 1
     lone y n z = one-at-most (length out) (getD h 0 0) n (waiting e (getD h 1 0)) (rw y at z)

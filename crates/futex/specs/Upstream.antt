@@ -9,12 +9,13 @@ use lib.ListN.{length, drop}
 use Rattle.seq.specs.List.{All}
 use Rattle.thread.specs.Code.{ok, eagain}
 use Rattle.thread.specs.Thread.{running}
+use Rattle.store.specs.Store.{refuse, accept, answer, left, out, reply}
 use Rattle.wait_queue.specs.Queue.{maxWaiters, entry, woken, joined, NoLower, Well}
 use Rattle.wait_queue.specs.Turn.{waits}
-use Rattle.kind.specs.Object.{on}
+use Rattle.kind.specs.Object.{Object}
 use Rattle.kind.specs.History.{calls, asks}
 use Rattle.futex.specs.Futex.{Futex, wait, wakeOne}
-use Rattle.futex.specs.Post.{layout, waitOut, wakeOut}
+use Rattle.futex.specs.Post.{place, waitOut, wakeOut}
 use Rattle.futex.specs.History.{fresh, after}
 
 -- Futex::inv: self.wait_q.inv()
@@ -130,28 +131,29 @@ pub record WakeDecide (n : ℕ) (all : Bool) (r : ℤ) (m' : ℕ) : Type 0 where
 
 -- lemma_wait_gating_condition: a thread i of priority p that runs, has not waited here and finds a place waits exactly if the value is the
 -- expected one; else nothing changes, and it is told to try again
-pub record Gating (expected i p : ℕ) (s : Futex) (q : List ℕ) : Type 0 where
-  pub blocks : s .val ≡ expected → waitOut expected i p running s q ≡ record { num = s; turn = record { code = waits; queue = joined (entry p i) q; woken = [] } }
-  pub returns : (s .val ≡ expected → ⊥) → waitOut expected i p running s q ≡ record { num = s; turn = record { code = eagain; queue = q; woken = [] } }
+pub record Gating (expected i p : ℕ) (s : Object Futex) : Type 0 where
+  pub blocks : s .num .val ≡ expected
+      → waitOut expected i p running s ≡ accept (record { num = s .num; queue = joined (entry p i) (s .queue) }) waits []
+  pub returns : (s .num .val ≡ expected → ⊥) → waitOut expected i p running s ≡ refuse eagain
 
 -- lemma_wake_semantics: a wake of one takes at most one from the queue, a wake of all empties it, and nobody is lost
-pub record WakeSemantics (s : Futex) (q : List ℕ) (room : ℕ) : Type 0 where
-  pub one : length (wakeOut false room s q .turn .woken) ≤ 1
-  pub one-lost : length (wakeOut false room s q .turn .woken) + length (wakeOut false room s q .turn .queue) ≡ length q
-  pub all : length q ≤ room → wakeOut true room s q .turn .queue ≡ []
-  pub all-lost : length (wakeOut true room s q .turn .woken) + length (wakeOut true room s q .turn .queue) ≡ length q
+pub record WakeSemantics (s : Object Futex) (room : ℕ) : Type 0 where
+  pub one : length (out (wakeOut false room s)) ≤ 1
+  pub one-lost : length (out (wakeOut false room s)) + length (left (wakeOut false room s) s .queue) ≡ length (s .queue)
+  pub all : length (s .queue) ≤ room → left (wakeOut true room s) s .queue ≡ []
+  pub all-lost : length (out (wakeOut true room s)) + length (left (wakeOut true room s) s .queue) ≡ length (s .queue)
 
 -- lemma_wait_wake_roundtrip: the thread i of priority p waits at a new futex for its value and is the one in the queue; a wake of one
 -- wakes it, with the result 0, and the futex is as new
 pub record Roundtrip (v i p : ℕ) (small : i < 4294967296) : Type 0 where
-  pub waited : waitOut v i p running (fresh v .num) (fresh v .queue) .turn .code ≡ waits
+  pub waited : answer (waitOut v i p running (fresh v)) ≡ waits
   pub queued : after v (asks i p running small (wait v) ∷ []) ≡ record { num = fresh v .num; queue = entry p i ∷ [] }
-  pub woke : wakeOut false 1 (fresh v .num) (entry p i ∷ []) ≡ record { num = fresh v .num; turn = record { code = pos 1; queue = []; woken = woken ok (entry p i) ∷ [] } }
-  pub back : after v (asks i p running small (wait v) ∷ calls i wakeOne ∷ []) ≡ fresh v
+  pub woke : wakeOut false 1 (record { num = fresh v .num; queue = entry p i ∷ [] }) ≡ accept (fresh v) (pos 1) (woken ok (entry p i) ∷ [])
+  pub back : after v (calls i wakeOne ∷ asks i p running small (wait v) ∷ []) ≡ fresh v
 
 -- lemma_woken_bounded
 pub record Bounded (all : Bool) (room : ℕ) (h e : List ℕ) : Type 0 where
   -- MAX_WAITERS <= u32::MAX
   pub limit : maxWaiters ≤ 4294967295
   -- its comment: woken <= queue length <= MAX_WAITERS. Of any memory: what wake answers is at most 64
-  pub woken : (n : ℕ) → on layout (wakeOut all room) h e .turn .code ≡ pos n → n ≤ maxWaiters
+  pub woken : (n : ℕ) → answer (reply place (wakeOut all room) h e) ≡ pos n → n ≤ maxWaiters
