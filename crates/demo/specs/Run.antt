@@ -4,7 +4,7 @@ use mathlib.Core.List.{List, [], _∷_}
 use Prim.Native.Nat.{ℕ, _≤_}
 use lib.ListN.{length, getD}
 use Rattle.wait_queue.specs.Queue.{maxWaiters, entry, waiting}
-use Rattle.kind.specs.History.{Object}
+use Rattle.kind.specs.Object.{Object}
 use Rattle.sem.specs.Sem.{Sem}
 use Rattle.sem.specs.Post.{layout}
 
