@@ -1,14 +1,16 @@
 -- What the contract of a call forces, by the verdict on it: the answer, the numbers, the queue and the words handed out. Assumes nothing.
 use mathlib.Core.Path.{_≡_, refl, sym, ap, _∙_}
-use mathlib.Core.Bool.{true}
+use mathlib.Core.Bool.{true, false, cond}
 use mathlib.Core.List.{List, [], _∷_, map}
 use Prim.Native.Nat.{ℕ, suc, _≤_, _<_}
 use native.Mathlib.Omega.{arith}
+use lib.Dec.{leb}
 use lib.IntN.{ℤ, pos, negsuc}
 use lib.ListN.{length, getD, length-map}
 use borrow.Author.Tests.{lt-ltb, le-ltb, le-leb, lt-leb}
 use Rattle.seq.specs.List.{any}
-use Rattle.thread.specs.Code.{einval}
+use Rattle.seq.proofs.Back.{back-length}
+use Rattle.thread.specs.Code.{ok, einval}
 use Rattle.thread.specs.Priority.{maxPriority}
 use Rattle.thread.specs.Thread.{running}
 use Rattle.store.specs.Store as store
@@ -131,10 +133,15 @@ module _ (K : Kind) (L : Layout (K .Num)) (v : ℕ → K .Wish) (i p : ℕ) (k :
             (pends ∙ rw (lt-ltb p maxPriority valid, ident-entry p i small, absent, le-ltb (length (waiting e (getD h (L .len) 0))) maxWaiters b));
       }
 
--- a new object: a header that is too short is refused, and stays
-pub start-refused : (K : Kind) (L : Layout (K .Num)) (n : K .Num) (h : List ℕ) (r : ℤ) (h' : List ℕ) → length h < suc (L .len) → Opened K L n h r h'
-    → (r ≡ einval) × (h' ≡ h)
-start-refused K L n h r h' b s =
-    let t = s blank blank-roomy in
-    let z : r ≡ einval = t .code ∙ rw (lt-leb (suc (L .len)) (length h) b) in
-    (z, t .kept 21 z .0)
+-- a new object: its answer, its numbers and the length of its queue; a header that is too short is refused, and stays
+module _ (K : Kind) (L : Layout (K .Num)) (n : K .Num) (h : List ℕ) (r : ℤ) (h' : List ℕ) (s : Opened K L n h r h') where
+  pub opened-code : r ≡ cond (leb (suc (L .len)) (length h)) (cond (K .formed n false) ok einval) einval
+  opened-code = s blank blank-roomy .code
+
+  pub opened-made : r ≡ ok → (L .num h' ≡ n) × (getD h' (L .len) 0 ≡ 0)
+  opened-made z =
+      let o = s blank blank-roomy .made z .object in
+      (ap (λ (x : Object (K .Num)). x .num) o, sym (back-length blank (getD h' (L .len) 0)) ∙ ap (λ (x : Object (K .Num)). length (x .queue)) o)
+
+  pub start-refused : length h < suc (L .len) → (r ≡ einval) × (h' ≡ h)
+  start-refused b = let z : r ≡ einval = opened-code ∙ rw (lt-leb (suc (L .len)) (length h) b) in (z, s blank blank-roomy .kept 21 z .0)

@@ -9,7 +9,7 @@ use lib.IntN.{ℤ}
 use borrow.Author.Tests.{ltb-true, ltb-false, leb-true, leb-false}
 use Rattle.seq.proofs.Order.{clash}
 use Rattle.thread.specs.Code.{einval}
-use Rattle.wait_queue.specs.Post.{Refused}
+use Rattle.store.specs.Store.{Refused}
 use Rattle.kind.proofs.Refusals.{served, because}
 use Rattle.sem.specs.Post.{GiveDecided, TakeDecided}
 use Rattle.sem.specs.Upstream.{GiveDecide}

@@ -9,15 +9,16 @@ use lib.ListN.{length}
 use borrow.Author.Tests.{lt-ltb, le-leb}
 use Rattle.seq.specs.Only.{Only}
 use Rattle.seq.proofs.Only.{said, back-alike}
-use Rattle.kind.specs.Determined.{Faithful}
-use Rattle.kind.proofs.Determined.{does-only, reads-only, tells-only, lists-only, started-only, audited-only}
+use Rattle.store.proofs.Determined.{did-only, reads-only, hands-only, fills-only}
+use Rattle.kind.specs.Determined.{Legible}
+use Rattle.kind.proofs.Determined.{faithful, opened-only, audited-only}
 use Rattle.sem.specs.Sem.{formed, sem-kind}
 use Rattle.sem.specs.Post.{layout, giveOut, tryTakeOut, takeOut, resetOut, GiveDecided, TakeDecided}
 use Rattle.sem.specs.Determined.{Determined}
 
 -- the three words are the count, the limit and the length of the queue
-faithful : Faithful layout
-faithful h h' n l = back-alike 3 h h' (λ i. l i ∷ n i .limit ∷ n i .count ∷ [])
+legible : Legible layout
+legible h h' n l = back-alike 3 h h' (λ i. l i ∷ n i .limit ∷ n i .count ∷ [])
 
 -- there is a queue in which somebody waits, and one in which nobody does
 give-only : (count limit : ℕ) (waits : Bool) → Only (λ (r : ℤ). GiveDecided count limit waits r)
@@ -36,11 +37,11 @@ determined =
     record {
       give-decide = give-only;
       take-decide = take-only;
-      init = λ count limit h. started-only sem-kind layout (record { count = count; limit = limit }) h faithful;
-      give = λ h e. tells-only layout giveOut h e faithful;
-      try-take = λ h e. reads-only layout tryTakeOut h e faithful;
-      take-blocking = λ i p st h e. does-only layout (takeOut i p st) h e faithful;
-      reset = λ h e out. lists-only layout (resetOut (length out)) h e faithful out;
+      init = λ count limit h. opened-only sem-kind layout (record { count = count; limit = limit }) h legible;
+      give = λ h e. hands-only (faithful layout legible) h e giveOut;
+      try-take = λ h e. reads-only (faithful layout legible) h e tryTakeOut;
+      take-blocking = λ i p st h e. did-only (faithful layout legible) h e (takeOut i p st);
+      reset = λ h e out. fills-only (faithful layout legible) h e (resetOut (length out)) out;
       count-get = λ h e. said _;
       limit-get = λ h e. said _;
       num-waiters = λ h e. said _;

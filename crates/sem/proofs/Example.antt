@@ -32,6 +32,6 @@ unfolding maxWaiters
 queue-ends = refl
 
 -- a thread that left and came again stands where it came last
-pub comes-again : map ident (after 0 2 (taking 7 (omega arith) 5 ∷ taking 9 (omega arith) 5 ∷ leaves 7 ∷ taking 7 (omega arith) 5 ∷ []) .queue) ≡ 9 ∷ 7 ∷ []
+pub comes-again : map ident (after 0 2 (taking 7 (omega arith) 5 ∷ leaves 7 ∷ taking 9 (omega arith) 5 ∷ taking 7 (omega arith) 5 ∷ []) .queue) ≡ 9 ∷ 7 ∷ []
 unfolding maxWaiters
 comes-again = refl

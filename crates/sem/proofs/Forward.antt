@@ -9,21 +9,22 @@ use lib.IntN.{ℤ, pos, negsuc}
 use lib.ListN.{length, getD}
 use borrow.Author.Tests.{lt-ltb, le-ltb}
 use Rattle.seq.specs.List.{any}
-use Rattle.thread.specs.Code.{ok, eagain, einval}
+use Rattle.thread.specs.Code.{ok, eagain, ebusy, einval}
 use Rattle.thread.specs.Priority.{maxPriority}
 use Rattle.thread.specs.Caller.{callerCode}
 use Rattle.thread.specs.Thread.{running}
+use Rattle.store.specs.Store.{Did}
+use Rattle.store.proofs.Laws.{did-alike}
 use Rattle.wait_queue.specs.Queue.{ident, waiting, Well}
 use Rattle.wait_queue.specs.Turn.{waits}
 use Rattle.kind.specs.Verdict.{upTo, everybody, keep, wake, allow}
 use Rattle.kind.specs.Kind.{plain}
-use Rattle.kind.specs.Object.{anyone, thread, Does, sane}
+use Rattle.kind.specs.Object.{anyone, thread, sane}
 use Rattle.kind.specs.Effect.{Barred, Waits}
-use Rattle.kind.proofs.Memory.{alike}
 use Rattle.kind.proofs.Answers.{length-line, verdict, call-is}
 use Rattle.kind.proofs.Forward.{caller-barred, refused-by, kept-by, nobody-told, woken-by, all-woken-by, short-by, waits-by, start-refused}
 use Rattle.sem.specs.Sem.{give, take, tryTake, reset, woke, incremented, saturated, counting, sem-kind}
-use Rattle.sem.specs.Post.{layout, tryTakeOut, takeOut, Starts, Gives, TriesTake, Takes, Resets}
+use Rattle.sem.specs.Post.{layout, place, tryTakeOut, takeOut, Starts, Gives, TriesTake, Takes, Resets}
 use Rattle.sem.specs.Upstream.{GiveInFull, ResetInFull}
 
 -- somebody waits, or nobody
@@ -65,17 +66,17 @@ module _ (h e : List ℕ) (s : sane sem-kind layout h e ≡ true) (r : ℤ) (h' 
     where
       go : (b : Bool) → ltb 0 (getD h 0 0) ≡ b → waiting e (getD h' 2 0) ≡ waiting e (getD h 2 0)
       go true y = kept-by sem-kind layout plain anyone tryTake h e s r h' e 0 refl (counting (getD h 0 0 - 1) (layout .num h)) ok (rw y) d .queue
-      go false y = rw (refused-by sem-kind layout plain anyone tryTake h e s r h' e 0 refl d 15 (rw y) .header)
+      go false y = rw (refused-by sem-kind layout plain anyone tryTake h e s r h' e 0 refl d ebusy (rw y) .header)
 
   -- take_blocking: a priority above 31, a thread that waits already or does not run
   pub take-caller-refuses : (i p st k : ℕ) (e' : List ℕ) → callerCode p st ≡ negsuc k → Takes i p st h e r h' e' → Barred (negsuc k) h e r h' e'
   take-caller-refuses i p st k e' z d = caller-barred sem-kind layout plain (thread i p st) take h e s r h' e' d k z
 
   -- upstream demands a count of 0; of what is there the thread takes one, as by try_take
-  pub take-takes : (i p st k : ℕ) (e' : List ℕ) → callerCode p st ≡ pos k → 0 < getD h 0 0 → Takes i p st h e r h' e' → Does layout tryTakeOut h e r h' e'
+  pub take-takes : (i p st k : ℕ) (e' : List ℕ) → callerCode p st ≡ pos k → 0 < getD h 0 0 → Takes i p st h e r h' e' → Did place tryTakeOut h e r h' e'
   take-takes i p st k e' z b d =
       let v = allow (counting (getD h 0 0 - 1) (layout .num h)) keep ok in
-      alike layout (takeOut i p st) tryTakeOut h e r h' e'
+      did-alike place (takeOut i p st) tryTakeOut h e
       (call-is sem-kind layout plain (thread i p st) take h e s k z v (rw (lt-ltb 0 (getD h 0 0) b))
       ∙ sym (call-is sem-kind layout plain anyone tryTake h e s 0 refl v (rw (lt-ltb 0 (getD h 0 0) b)))) d
 
@@ -99,4 +100,4 @@ module _ (h e : List ℕ) (s : sane sem-kind layout h e ≡ true) (r : ℤ) (h' 
 
 -- a header of fewer than three words
 pub init-refuses : (c l : ℕ) (h : List ℕ) (r : ℤ) (h' : List ℕ) → length h < 3 → Starts c l h r h' → (r ≡ einval) × (h' ≡ h)
-init-refuses c l h r h' k s = start-refused sem-kind layout (record { count = c; limit = l }) h r h' k s
+init-refuses c l h r h' k s = start-refused sem-kind layout (record { count = c; limit = l }) h r h' s k

@@ -8,15 +8,17 @@ use lib.Dec.{ltb}
 use lib.IntN.{ℤ, pos, negsuc}
 use lib.ListN.{length}
 use Rattle.seq.specs.List.{any}
+use Rattle.thread.specs.Code.{einval}
+use Rattle.store.specs.Store.{Reply, refuse, accept, left, asked}
 use Rattle.wait_queue.specs.Queue.{ident, entry}
-use Rattle.wait_queue.specs.Turn.{parked}
+use Rattle.wait_queue.specs.Turn.{parked, remove}
 use Rattle.wait_queue.proofs.Well.{well-empty}
 use Rattle.kind.specs.Verdict.{upTo, Verdict, deny, allow, keep, park, wake}
 use Rattle.kind.specs.Kind.{plain}
-use Rattle.kind.specs.Object.{Out, refused, settled, Caller, named, thread, name, code, carried, asked, call}
-use Rattle.kind.specs.History.{Object, Event, calls, asks, leaves, next, Lasting}
+use Rattle.kind.specs.Object.{Object, queued, Caller, named, thread, name, code, carried, fine, call}
+use Rattle.kind.specs.History.{Event, calls, asks, leaves, next, Lasting}
 use Rattle.kind.proofs.Histories.{always, throughout}
-use Rattle.sem.specs.Sem.{Sem, Call, give, take, tryTake, reset, formed, decide, sem-kind}
+use Rattle.sem.specs.Sem.{Sem, Call, give, take, tryTake, reset, decide, sem-kind}
 use Rattle.sem.specs.History.{fresh, after, Promise}
 use Rattle.sem.proofs.Law.{mk, is-fine, idle, sem-lawful}
 
@@ -44,38 +46,40 @@ decides c l v q w tryTake = go (ltb 0 c)
     go false = tt
 decides c l v q w reset = refl
 
-module _ (c l : ℕ) (q : List ℕ) where
-  does : (w : Caller) (d : Verdict Sem (Unit {0})) → Limits l d → carried w d (mk c l) q .num .limit ≡ l
+module _ (s : Object Sem) where
+  does : (w : Caller) (d : Verdict Sem (Unit {0})) → Limits (s .num .limit) d → left (carried w d s) s .num .limit ≡ s .num .limit
   does w (deny r) h = refl
   does w (allow m keep r) h = h
   does (named i) (allow m (park x) r) h = refl
-  does (thread i p st) (allow m (park x) r) h = go (parked (entry p i) q .code)
+  does (thread i p st) (allow m (park x) r) h = go (parked (entry p i) (s .queue))
     where
-      go : (z : ℤ) → settled z m (mk c l) .limit ≡ l
-      go (pos n) = h
-      go (negsuc n) = refl
+      go : (y : Reply (List ℕ)) → left (queued m y) s .num .limit ≡ s .num .limit
+      go (refuse c) = refl
+      go (accept q c o) = h
   does w (allow m (wake p f) r) h = h
 
-  asks-limit : (z : ℤ) (o : Out Sem) → o .num .limit ≡ l → asked z (mk c l) q o .num .limit ≡ l
-  asks-limit (pos n) o h = h
-  asks-limit (negsuc n) o h = refl
+  asks-limit : (z : ℤ) (y : Reply (Object Sem)) → left y s .num .limit ≡ s .num .limit → left (asked z y) s .num .limit ≡ s .num .limit
+  asks-limit (pos n) y h = h
+  asks-limit (negsuc n) y h = refl
 
-  either : (b : Bool) (o : Out Sem) → o .num .limit ≡ l → cond b o (refused (negsuc 21) (mk c l) q) .num .limit ≡ l
-  either true o h = h
-  either false o h = refl
+  either : (b : Bool) (y : Reply (Object Sem)) → left y s .num .limit ≡ s .num .limit → left (cond b y (refuse einval)) s .num .limit ≡ s .num .limit
+  either true y h = h
+  either false y h = refl
 
-  abbrev verdict : Caller → Call → Verdict Sem (Unit {0})
-  verdict w k = decide (mk c l) plain (map ident q) (name w) k
-
-  calls-limit : (w : Caller) (k : Call) → call sem-kind plain w k (mk c l) q .num .limit ≡ l
+  calls-limit : (w : Caller) (k : Call) → left (call sem-kind plain w k s) s .num .limit ≡ s .num .limit
   calls-limit w k =
-      either (formed (mk c l) (any q)) (asked (code w) (mk c l) q (carried w (verdict w k) (mk c l) q))
-      (asks-limit (code w) (carried w (verdict w k) (mk c l) q) (does w (verdict w k) (decides c l plain (map ident q) (name w) k)))
+      let d = decide (s .num) plain (map ident (s .queue)) (name w) k in
+      either (fine sem-kind s) (asked (code w) (carried w d s))
+      (asks-limit (code w) (carried w d s) (does w d (decides (s .num .count) (s .num .limit) plain (map ident (s .queue)) (name w) k)))
 
 pub limit-next : (s : Object Sem) (x : Event Call) → next sem-kind plain s x .num .limit ≡ s .num .limit
-limit-next s (calls i k) = calls-limit (s .num .count) (s .num .limit) (s .queue) (named i) k
-limit-next s (asks i p st h k) = calls-limit (s .num .count) (s .num .limit) (s .queue) (thread i p st) k
-limit-next s (leaves i) = refl
+limit-next s (calls i k) = calls-limit s (named i) k
+limit-next s (asks i p st h k) = calls-limit s (thread i p st) k
+limit-next s (leaves i) = go (remove i (s .queue))
+  where
+    go : (y : Reply (List ℕ)) → left (queued (s .num) y) s .num .limit ≡ s .num .limit
+    go (refuse c) = refl
+    go (accept q c o) = refl
 
 somebody : (q : List ℕ) → 0 < length q → any q ≡ true
 somebody [] h = absurd (omega arith)

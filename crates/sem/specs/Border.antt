@@ -6,7 +6,7 @@ use mathlib.Core.Logic.{_⊎_}
 use Prim.Native.Nat.{ℕ, _≤_, _<_}
 use lib.IntN.{ℤ}
 use Rattle.thread.specs.Code.{ok, ebusy, einval}
-use Rattle.wait_queue.specs.Post.{Refused}
+use Rattle.store.specs.Store.{Refused}
 use Rattle.sem.specs.Post.{GiveDecided, TakeDecided}
 
 -- what upstream demands of who calls give_decide

@@ -4,14 +4,15 @@ use mathlib.Core.List.{List, []}
 use Prim.Native.Nat.{ℕ, _≤_, _<_}
 use lib.ListN.{length}
 use Rattle.kind.specs.Kind.{plain}
-use Rattle.kind.specs.History.{Object, Event, run, Queued}
+use Rattle.kind.specs.Object.{Object}
+use Rattle.kind.specs.History.{Event, run, Queued}
 use Rattle.sem.specs.Sem.{Sem, Call, sem-kind}
 
 -- a new semaphore
 abbrev pub fresh : ℕ → ℕ → Object Sem
 fresh c l = record { num = record { count = c; limit = l }; queue = [] }
 
--- after the events xs
+-- after the events xs, the last in front
 abbrev pub after : ℕ → ℕ → List (Event Call) → Object Sem
 after c l xs = run sem-kind plain (fresh c l) xs
 

@@ -5,7 +5,9 @@ use native.Mathlib.Omega.{arith}
 use Rattle.thread.specs.Thread.{running}
 use Rattle.wait_queue.specs.Queue.{ident}
 use Rattle.kind.specs.Kind.{plain}
-use Rattle.kind.specs.History.{Object, Event, calls, asks, happens}
+use Rattle.store.specs.Store.{out}
+use Rattle.kind.specs.Object.{Object}
+use Rattle.kind.specs.History.{Event, calls, asks, happens}
 use Rattle.sem.specs.Sem.{Sem, Call, give, take, sem-kind}
 use Rattle.sem.specs.History.{after}
 
@@ -13,8 +15,9 @@ use Rattle.sem.specs.History.{after}
 abbrev pub taking : (i : ℕ) → i < 4294967296 → ℕ → Event Call
 taking i h p = asks i p running h take
 
+-- the last in front
 abbrev pub takes : List (Event Call)
-takes = taking 7 (omega arith) 5 ∷ taking 3 (omega arith) 2 ∷ taking 9 (omega arith) 5 ∷ []
+takes = taking 9 (omega arith) 5 ∷ taking 3 (omega arith) 2 ∷ taking 7 (omega arith) 5 ∷ []
 
 -- the three takes, then n gives
 abbrev pub gives : ℕ → List (Event Call)
@@ -22,7 +25,7 @@ gives zero = []
 gives (suc n) = calls 1 give ∷ gives n
 
 abbrev pub worked : ℕ → Object Sem
-worked n = after 0 2 (takes ++ gives n)
+worked n = after 0 2 (gives n ++ takes)
 
 -- the threads that wait after n gives, the count, and the words of the threads that the next give wakes
 abbrev pub waiting-ids : ℕ → List ℕ
@@ -32,4 +35,4 @@ abbrev pub count-at : ℕ → ℕ
 count-at n = worked n .num .count
 
 abbrev pub wakes : ℕ → List ℕ
-wakes n = happens sem-kind plain (worked n) (calls 1 give) .turn .woken
+wakes n = out (happens sem-kind plain (worked n) (calls 1 give))

@@ -49,9 +49,11 @@ returns-3 : tie.Need-returns-3
 returns-3 c =
     let a = c .before .before .before .before .before .before .before .before .before .before .before .before .before .before .args in
     let u = c .before .before .unpend-all in
-    let v = len-kept (a .h .now) 0 in
+    let s = sym (c .before .before .before .before .before .before .before .before .before .formed .ensures) ∙ not-false _
+    (c .before .before .before .before .before .before .before .before .if1 .left) in
+    let v = len-kept (a .h .now) (words (a .h .now) (a .e .now) s) 0 in
     rw (answered {z = u .result} (u .ok))
-    (cleared-all (a .h .now) (a .e .now) (sym (c .before .before .before .before .before .before .before .before .before .formed .ensures) ∙ not-false _ (c .before .before .before .before .before .before .before .before .if1 .left)) (a .out .now) (u .result) (u .last .0) (u .last .1 .1 .1 .0) (omega (arith, c .before .before .before .before .before .before .wide .ensures))
+    (cleared-all (a .h .now) (a .e .now) s (a .out .now) (u .result) (u .last .0) (u .last .1 .1 .1 .0) (omega (arith, c .before .before .before .before .before .before .wide .ensures))
     (rw v at (u .ensures)))
 
 pub reset-spec : {M : Type 1} → statement M
