@@ -9,7 +9,7 @@ use Rattle.condvar.specs.Condvar.{Call, condvar-kind}
 abbrev pub fresh : Object (Unit {0})
 fresh = record { num = tt; queue = [] }
 
--- after the events xs, of which the last stands first
+-- after the events xs, the last in front
 abbrev pub after : List (Event Call) → Object (Unit {0})
 after xs = run condvar-kind plain fresh xs
 

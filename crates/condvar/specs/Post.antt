@@ -59,11 +59,15 @@ Signals h e w r h' w' = Hands place signalOut h e w r h' w'
 abbrev pub Broadcasts : List ℕ → List ℕ → List ℕ → ℤ → List ℕ → List ℕ → Type 0
 Broadcasts h e out r h' out' = Fills place (broadcastOut (length out)) h e out r h' out'
 
+-- a number of a condition variable that is as it should be
+abbrev pub Gets : (Object (Unit {0}) → ℤ) → List ℕ → List ℕ → ℤ → Type 0
+Gets f h e r = r ≡ looks place (reads condvar-kind f) h e
+
 abbrev pub CountsWaiters : List ℕ → List ℕ → ℤ → Type 0
-CountsWaiters h e r = r ≡ looks place (reads condvar-kind (λ s. pos (length (s .queue)))) h e
+CountsWaiters = Gets (λ s. pos (length (s .queue)))
 
 abbrev pub SaysHasWaiters : List ℕ → List ℕ → ℤ → Type 0
-SaysHasWaiters h e r = r ≡ looks place (reads condvar-kind (λ s. hasWaiters (s .queue))) h e
+SaysHasWaiters = Gets (λ s. hasWaiters (s .queue))
 
 -- whether the whole condition variable is as it should be
 abbrev pub Audits : List ℕ → List ℕ → Bool → Type 0

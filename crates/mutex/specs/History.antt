@@ -16,7 +16,7 @@ use Rattle.mutex.specs.Mutex.{Owner, nobody, thread, Mutex, Call, lock, 
 abbrev pub fresh : Object Mutex
 fresh = record { num = free; queue = [] }
 
--- after the events xs, of which the last stands first
+-- after the events xs, the last in front
 abbrev pub after : List (Event Call) → Object Mutex
 after xs = run mutex-kind plain fresh xs
 

@@ -94,17 +94,21 @@ Unlocks i h e w r h' w' = Hands place (unlockOut i) h e w r h' w' × Written h h
 abbrev pub ReleaseDecided : ℕ → ℕ → ℕ → List ℕ → List ℕ → ℤ → Type 0
 ReleaseDecided i p st h e r = r ≡ answer (reply place (releaseOut i p st) h e)
 
+-- a number of a mutex that is as it should be
+abbrev pub Gets : (Object Mutex → ℤ) → List ℕ → List ℕ → ℤ → Type 0
+Gets f h e r = r ≡ looks place (reads mutex-kind f) h e
+
 abbrev pub SaysLocked : List ℕ → List ℕ → ℤ → Type 0
-SaysLocked h e r = r ≡ looks place (reads mutex-kind (λ s. isLocked (s .num))) h e
+SaysLocked = Gets (λ s. isLocked (s .num))
 
 abbrev pub GetsLockCount : List ℕ → List ℕ → ℤ → Type 0
-GetsLockCount h e r = r ≡ looks place (reads mutex-kind (λ s. pos (s .num .count))) h e
+GetsLockCount = Gets (λ s. pos (s .num .count))
 
 abbrev pub CountsWaiters : List ℕ → List ℕ → ℤ → Type 0
-CountsWaiters h e r = r ≡ looks place (reads mutex-kind (λ s. pos (length (s .queue)))) h e
+CountsWaiters = Gets (λ s. pos (length (s .queue)))
 
 abbrev pub GetsOwner : List ℕ → List ℕ → ℤ → Type 0
-GetsOwner h e r = r ≡ looks place (reads mutex-kind (λ s. ownerId (s .num .owner))) h e
+GetsOwner = Gets (λ s. ownerId (s .num .owner))
 
 -- the answer is true exactly if the whole mutex is as it should be
 pub record Audits (h e : List ℕ) (r : Bool) : Type 0 where
