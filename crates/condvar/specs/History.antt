@@ -1,14 +1,15 @@
 -- What holds of a condition variable after any sequence of calls.
 use mathlib.Core.List.{List, []}
 use Rattle.kind.specs.Kind.{plain}
-use Rattle.kind.specs.History.{Object, Event, run, Queued}
+use Rattle.kind.specs.Object.{Object}
+use Rattle.kind.specs.History.{Event, run, Queued}
 use Rattle.condvar.specs.Condvar.{Call, condvar-kind}
 
 -- a new condition variable
 abbrev pub fresh : Object (Unit {0})
 fresh = record { num = tt; queue = [] }
 
--- after the events xs
+-- after the events xs, the last in front
 abbrev pub after : List (Event Call) → Object (Unit {0})
 after xs = run condvar-kind plain fresh xs
 

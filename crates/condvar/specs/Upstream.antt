@@ -9,10 +9,11 @@ use lib.IntN.{ℤ, pos, negsuc}
 use lib.ListN.{length, getD}
 use Rattle.thread.specs.Code.{ok, eagain}
 use Rattle.thread.specs.Upstream.{Tells}
+use Rattle.store.specs.Store.{Reply, accept, answer, left, out}
 use Rattle.wait_queue.specs.Queue.{entry, ident, woken, waiting, joined, Well}
 use Rattle.wait_queue.specs.Turn.{waits}
 use Rattle.wait_queue.specs.Upstream.{FirstIsWoken}
-use Rattle.kind.specs.Object.{Out}
+use Rattle.kind.specs.Object.{Object}
 use Rattle.kind.specs.History.{Event}
 use Rattle.mutex.specs.Mutex.{Mutex, unlocked, transferred, free, taken}
 use Rattle.condvar.specs.Condvar.{Call}
@@ -130,35 +131,37 @@ pub record CleanState (h' : List ℕ) : Type 0 where
   pub empty : (e : List ℕ) → waiting e (getD h' 0 0) ≡ fresh .queue
   pub inv : (xs : List (Event Call)) → Inv (after xs .queue)
 
+-- q wait at it
+abbrev pub waited : List ℕ → Object (Unit {0})
+waited q = record { num = tt; queue = q }
+
 -- n signals, one after the other: their answers, those that were woken, each with its result, and the queue that is left
 pub record ManySignals : Type 0 where
   pub answers : List ℤ
   pub woken : List ℕ
   pub queue : List ℕ
 
-abbrev pub signals : ℕ → List ℕ → ManySignals
-signals zero q = record { answers = []; woken = []; queue = q }
-signals (suc n) q =
+abbrev pub signals : ℕ → Object (Unit {0}) → ManySignals
+signals zero s = record { answers = []; woken = []; queue = s .queue }
+signals (suc n) s =
     record {
-      answers = signalOut tt q .turn .code ∷ signals n (signalOut tt q .turn .queue) .answers;
-      woken = signalOut tt q .turn .woken ++ signals n (signalOut tt q .turn .queue) .woken;
-      queue = signals n (signalOut tt q .turn .queue) .queue;
+      answers = answer (signalOut s) ∷ signals n (left (signalOut s) s) .answers;
+      woken = out (signalOut s) ++ signals n (left (signalOut s) s) .woken;
+      queue = signals n (left (signalOut s) s) .queue;
     }
 
 -- lemma_signal_broadcast_equivalence: where n wait, n signals and one broadcast, with room to hand them out, wake the same threads in the
 -- same order with the same result, and leave nobody. Each of the signals tells that it woke one, and the broadcast tells that it woke n
 pub record Equivalence (q : List ℕ) (room : ℕ) : Type 0 where
-  pub woken : signals (length q) q .woken ≡ broadcastOut room tt q .turn .woken
-  pub signals-empty : signals (length q) q .queue ≡ []
-  pub broadcast-empty : broadcastOut room tt q .turn .queue ≡ []
-  pub signals-tell : signals (length q) q .answers ≡ map (λ x. pos 1) q
-  pub broadcast-tells : broadcastOut room tt q .turn .code ≡ pos (length q)
+  pub broadcast : broadcastOut room (waited q) ≡ accept fresh (pos (length q)) (signals (length q) (waited q) .woken)
+  pub signals-empty : signals (length q) (waited q) .queue ≡ []
+  pub signals-tell : signals (length q) (waited q) .answers ≡ map (λ x. pos 1) q
 
 -- nobody is woken, and nobody waits
-abbrev pub idle : Out (Unit {0})
-idle = record { num = tt; turn = record { code = pos 0; queue = []; woken = [] } }
+abbrev pub idle : Reply (Object (Unit {0}))
+idle = accept fresh (pos 0) []
 
 -- lemma_broadcast_idempotent: a broadcast to nobody answers 0 and nobody waits, with any room; so does a second one after a first
 pub record Idempotent (q : List ℕ) (room again : ℕ) : Type 0 where
-  pub nobody : broadcastOut again tt [] ≡ idle
-  pub second : length q ≤ room → broadcastOut again tt (broadcastOut room tt q .turn .queue) ≡ idle
+  pub nobody : broadcastOut again fresh ≡ idle
+  pub second : length q ≤ room → broadcastOut again (left (broadcastOut room (waited q)) (waited q)) ≡ idle

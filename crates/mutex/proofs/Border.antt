@@ -10,7 +10,7 @@ use lib.IntN.{ℤ}
 use borrow.Author.Tests.{lt-ltb, le-ltb, ltb-true, ltb-false}
 use Rattle.seq.proofs.Order.{clash}
 use Rattle.thread.specs.Code.{einval, eoverflow}
-use Rattle.wait_queue.specs.Post.{Refused}
+use Rattle.store.specs.Store.{Refused}
 use Rattle.kind.proofs.Refusals.{served, because}
 use Rattle.mutex.specs.Mutex.{maxCount}
 use Rattle.mutex.specs.Post.{LockDecided, UnlockDecided}

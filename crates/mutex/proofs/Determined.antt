@@ -10,13 +10,12 @@ use lib.ListN.{getD}
 use borrow.Author.Tests.{ltb-true, ltb-false}
 use Rattle.seq.specs.Only.{Only, Alike}
 use Rattle.seq.proofs.Only.{said, and, exactly, back-alike}
-use Rattle.wait_queue.specs.Post.{Told}
-use Rattle.wait_queue.proofs.Determined.{told-only}
-use Rattle.kind.specs.Object.{Out, on, Does}
-use Rattle.kind.specs.Post.{Tells}
-use Rattle.kind.proofs.Determined.{Outcome, same-outcome, same-start}
+use Rattle.store.specs.Store.{Reply, Did, Hands}
+use Rattle.store.proofs.Determined.{Outcome}
+use Rattle.kind.specs.Object.{Object}
+use Rattle.kind.proofs.Determined.{same-outcome, same-start}
 use Rattle.mutex.specs.Mutex.{nobody, thread, Mutex, free, mutex-kind}
-use Rattle.mutex.specs.Post.{ownerIn, layout, tryLockOut, unlockOut, lockOut, passOut, Starts, Written, Audits, LockDecided, UnlockDecided}
+use Rattle.mutex.specs.Post.{ownerIn, layout, place, tryLockOut, unlockOut, lockOut, passOut, Starts, Written, Audits, LockDecided, UnlockDecided}
 use Rattle.mutex.specs.Determined.{Determined}
 
 module _ (h h₁ h₂ : List ℕ) (u : Written h h₁) (v : Written h h₂) (l : getD h₁ 3 0 ≡ getD h₂ 3 0) where
@@ -49,17 +48,16 @@ module _ (h h₁ h₂ : List ℕ) (u : Written h h₁) (v : Written h h₂) (l :
   words : layout .num h₁ ≡ layout .num h₂ → Alike 4 h₁ h₂
   words n = let o = owner (ap (λ (m : Mutex). m .owner) n) in back-alike 4 h₁ h₂ (λ i. l i ∷ n i .count ∷ o .1 i ∷ o .0 i ∷ [])
 
-module _ (f : Mutex → List ℕ → Out Mutex) (h e : List ℕ) where
-  does-only : Only (λ ((r, h', e') : Outcome). Does layout f h e r h' e' × Written h h')
-  does-only x y m k = same-outcome layout f h e x y (m .0) (k .0) (λ n l. words h (x .1) (y .1) (m .1) (k .1) l n)
+module _ (f : Object Mutex → Reply (Object Mutex)) (h e : List ℕ) where
+  does-only : Only (λ ((r, h', e') : Outcome). Did place f h e r h' e' × Written h h')
+  does-only x y m k = same-outcome layout h e f x y (m .0) (k .0) (λ n l. words h (x .1) (y .1) (m .1) (k .1) l n)
 
-  pub reads-only : Only (λ ((r, h') : ℤ × List ℕ). Does layout f h e r h' e × Written h h')
+  pub reads-only : Only (λ ((r, h') : ℤ × List ℕ). Did place f h e r h' e × Written h h')
   reads-only x y m k = let q = does-only (x .0, x .1, e) (y .0, y .1, e) m k in λ i. (q i .0, q i .1)
 
-  tells-only : (w : ℕ) → Only (λ ((r, h', w') : ℤ × List ℕ × ℕ). Tells layout f h e w r h' w' × Written h h')
-  tells-only w x y m k =
-      and (λ r h'. Does layout f h e r h' e × Written h h') (Told (on layout f h e .turn .woken) w) reads-only (told-only (on layout f h e .turn .woken) w) x y
-      ((m .0 .0, m .1), m .0 .1) ((k .0 .0, k .1), k .0 .1)
+  hands-only : (w : ℕ) → Only (λ ((r, h', w') : ℤ × List ℕ × ℕ). Hands place f h e w r h' w' × Written h h')
+  hands-only w x y m k =
+      and (λ r h'. Did place f h e r h' e × Written h h') _ reads-only (said _) x y ((m .0 .0, m .1), m .0 .1) ((k .0 .0, k .1), k .0 .1)
 
 starts-only : (h : List ℕ) → Only (λ ((r, h') : ℤ × List ℕ). Starts h r h')
 starts-only h x y m k = same-start mutex-kind layout free h x y (m .0) (k .0) (λ n l. words h (x .1) (y .1) (m .1) (k .1) l n)
@@ -85,8 +83,8 @@ determined =
       init = starts-only;
       try-lock = λ i. reads-only (tryLockOut i);
       lock-blocking = λ i p st. does-only (lockOut i p st);
-      pass = tells-only passOut;
-      unlock = λ i. tells-only (unlockOut i);
+      pass = hands-only passOut;
+      unlock = λ i. hands-only (unlockOut i);
       release-decide = λ i p st h e. said _;
       is-locked = λ h e. said _;
       lock-count-get = λ h e. said _;

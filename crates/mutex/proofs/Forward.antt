@@ -8,7 +8,7 @@ use lib.Dec.{ltb, eqb}
 use lib.IntN.{ℤ, pos, negsuc}
 use lib.ListN.{length, getD}
 use borrow.Author.Tests.{lt-ltb, le-ltb, eq-eqb, ne-eqb}
-use Rattle.thread.specs.Code.{ok, einval, eoverflow}
+use Rattle.thread.specs.Code.{ok, ebusy, einval, eoverflow}
 use Rattle.thread.specs.Priority.{maxPriority}
 use Rattle.thread.specs.Caller.{callerCode}
 use Rattle.thread.specs.Thread.{running}
@@ -40,13 +40,13 @@ module _ (h e : List ℕ) (s : sane mutex-kind layout h e ≡ true) (r : ℤ) (h
   pub try-lock-keeps : (i : ℕ) → TriesLock i h e r h' → waiting e (getD h' 3 0) ≡ waiting e (getD h 3 0)
   try-lock-keeps i d = go (ltb 0 (getD h 0 0)) (eqb (getD h 1 0) i) (ltb (getD h 2 0) maxCount) refl refl refl
     where
-      stays : (c : ℕ) → Barred (negsuc c) h e r h' e → waiting e (getD h' 3 0) ≡ waiting e (getD h 3 0)
+      stays : (c : ℤ) → Barred c h e r h' e → waiting e (getD h' 3 0) ≡ waiting e (getD h 3 0)
       stays c b = rw (b .header)
 
       go : (a b c : Bool) → ltb 0 (getD h 0 0) ≡ a → eqb (getD h 1 0) i ≡ b → ltb (getD h 2 0) maxCount ≡ c → waiting e (getD h' 3 0) ≡ waiting e (getD h 3 0)
       go false b c f o m = kept-by mutex-kind layout plain (named i) tryLock h e s r h' e 0 refl (taken i) ok (rw f) (d .0) .queue
-      go true false c f o m = stays 15 (refused-by mutex-kind layout plain (named i) tryLock h e s r h' e 0 refl (d .0) 15 (rw (f, o)))
-      go true true false f o m = stays 138 (refused-by mutex-kind layout plain (named i) tryLock h e s r h' e 0 refl (d .0) 138 (rw (f, o, m)))
+      go true false c f o m = stays ebusy (refused-by mutex-kind layout plain (named i) tryLock h e s r h' e 0 refl (d .0) ebusy (rw (f, o)))
+      go true true false f o m = stays eoverflow (refused-by mutex-kind layout plain (named i) tryLock h e s r h' e 0 refl (d .0) eoverflow (rw (f, o, m)))
       go true true true f o m =
           kept-by mutex-kind layout plain (named i) tryLock h e s r h' e 0 refl (counting (suc (getD h 2 0)) (layout .num h)) ok (rw (f, o, m)) (d .0) .queue
 
@@ -59,7 +59,8 @@ module _ (h e : List ℕ) (s : sane mutex-kind layout h e ≡ true) (r : ℤ) (h
       → Locks i p st h e r h' e' → Barred eoverflow h e r h' e'
   lock-overflow-refuses i p st k e' z o c d =
       let b : maxCount ≤ getD h 2 0 = omega arith in
-      refused-by mutex-kind layout plain (object.thread i p st) lock h e s r h' e' k z (d .0) 138 (rw (o, eq-eqb i i refl, le-ltb (getD h 2 0) maxCount b))
+      refused-by mutex-kind layout plain (object.thread i p st) lock h e s r h' e' k z (d .0) eoverflow
+      (rw (o, eq-eqb i i refl, le-ltb (getD h 2 0) maxCount b))
 
   -- for another's it waits
   pub mutex-waits : (i p : ℕ) (e' : List ℕ) → i < 4294967296 → p < maxPriority → Another i (layout .num h .owner) → Locks i p running h e r h' e'
@@ -94,4 +95,4 @@ module _ (h e : List ℕ) (s : sane mutex-kind layout h e ≡ true) (r : ℤ) (h
 
 -- a header of fewer than four words
 pub init-refuses : (h : List ℕ) (r : ℤ) (h' : List ℕ) → length h < 4 → Starts h r h' → (r ≡ einval) × (h' ≡ h)
-init-refuses h r h' k s = start-refused mutex-kind layout free h r h' k (s .0)
+init-refuses h r h' k s = start-refused mutex-kind layout free h r h' (s .0) k

@@ -15,20 +15,26 @@ use Rattle.seq.proofs.Order.{clash, length-insert}
 use Rattle.thread.specs.Code.{ok, eperm, ebusy, einval, eoverflow}
 use Rattle.thread.specs.Priority.{maxPriority}
 use Rattle.thread.specs.Thread.{running}
+use Rattle.store.specs.Store.{Reply, refuse, accept, answer, left, reply, Did}
+use Rattle.store.proofs.Laws.{did-alike, kept, looks-is}
 use Rattle.wait_queue.specs.Queue.{maxWaiters, entry, prio, ident, woken, waiting, holds, joined, Well}
 use Rattle.wait_queue.specs.Turn.{waits}
 use Rattle.wait_queue.proofs.Answers.{ident-entry}
 use Rattle.wait_queue.proofs.Well.{well-empty}
 use Rattle.kind.specs.Kind.{plain}
-use Rattle.kind.specs.Object.{Out, refused, on, Does, sane}
-use Rattle.kind.specs.History.{Object, Event, calls, asks, happens, next, run, Lasting}
-use Rattle.kind.proofs.Memory.{Housed, is-on, malformed, alike, shown, unchanged, barred}
+use Rattle.kind.specs.Object as object
+use Rattle.kind.specs.Object.{Object, named, reads, sane}
+use Rattle.kind.specs.History.{Event, calls, asks, next, Lasting}
+use Rattle.kind.proofs.Memory.{Housed, housed-formed, is-on, shown}
+use Rattle.kind.proofs.Answers.{call-no, unseen}
+use Rattle.kind.proofs.Forward.{opened-code, opened-made}
 use Rattle.kind.proofs.Histories.{always, step}
 use Rattle.mutex.specs.Mutex.{Owner, nobody, thread, Mutex, Call, lock, tryLock, unlock, held, formed, maxCount, released, unlocked, transferred, free, taken, mutex-kind}
-use Rattle.mutex.specs.Post.{layout, tryLockOut, unlockOut, lockOut, getOut, isLocked, ownerId, Starts, TriesLock, Locks, Unlocks, SaysLocked, GetsLockCount, CountsWaiters, GetsOwner, LockDecided, UnlockDecided}
+use Rattle.mutex.specs.Post.{layout, place, tryLockOut, unlockOut, lockOut, isLocked, ownerId, Starts, TriesLock, Locks, Unlocks, Gets, SaysLocked, GetsLockCount, CountsWaiters, GetsOwner, LockDecided, UnlockDecided}
 use Rattle.mutex.specs.History.{fresh, after}
 use Rattle.mutex.specs.Upstream.{Inv, isOk, Another, Init, TryLock, LockBlocking, Unlock, IsLocked, LockCountGet, NumWaiters, OwnerGet, LockDecide, UnlockDecide, OwnerCount, Roundtrip, times, Depth}
 use Rattle.mutex.proofs.Law.{mk, free-fine, free-empty, mutex-lawful}
+use Rattle.mutex.proofs.Moves.{whole}
 use Rattle.mutex.proofs.Answers.{lock-null-bad, lock-null, lock-empty, lock-over, lock-more, lock-busy, lock-pend, unlock-null, unlock-empty, unlock-not, unlock-more, unlock-one}
 
 -- decide functions: of numbers as they should be, an owner with a count and no owner with none
@@ -145,42 +151,38 @@ formed-inv (thread j) c q f w = record { owned = λ k. refl; counted = λ k. ltb
 -- init
 pub mutex-init : (h : List ℕ) (r : ℤ) (h' e : List ℕ) → 4 ≤ length h → Starts h r h' → (r ≡ ok) × Init (layout .num h') (waiting e (getD h' 3 0))
 mutex-init h r h' e k s =
-    let c : r ≡ ok = s .0 .code ∙ rw (le-leb 4 (length h) k) in
-    let m = s .0 .made c in
-    (c, rw (m .0, m .1 e) (record { inv = formed-inv nobody 0 [] refl well-empty; owner = refl; count = refl; empty = refl }))
+    let c : r ≡ ok = opened-code mutex-kind layout free h r h' (s .0) ∙ rw (le-leb 4 (length h) k) in
+    let m = opened-made mutex-kind layout free h r h' (s .0) c in
+    (c, rw (m .0, m .1) (record { inv = formed-inv nobody 0 [] refl well-empty; owner = refl; count = refl; empty = refl }))
 
 -- what one call does, case by case
-abbrev gained : ℤ → Mutex → List ℕ → Out Mutex
-gained r m q = record { num = m; turn = record { code = r; queue = q; woken = [] } }
-
 module _ (i c : ℕ) (q : List ℕ) where
-  first-lock : formed (mk nobody c) (any q) ≡ true → tryLockOut i (mk nobody c) q ≡ gained ok (taken i) q
+  first-lock : formed (mk nobody c) (any q) ≡ true → tryLockOut i (whole nobody c q) ≡ accept (whole (thread i) 1 q) ok []
   first-lock f = rw f
 
-  next-lock : formed (mk (thread i) c) (any q) ≡ true → c < maxCount → tryLockOut i (mk (thread i) c) q ≡ gained ok (mk (thread i) (suc c)) q
+  next-lock : formed (mk (thread i) c) (any q) ≡ true → c < maxCount → tryLockOut i (whole (thread i) c q) ≡ accept (whole (thread i) (suc c) q) ok []
   next-lock f k = rw (f, eq-eqb i i refl, lt-ltb c maxCount k)
 
   -- the owner's locks are at their limit
-  no-lock : formed (mk (thread i) c) (any q) ≡ true → c ≡ maxCount → tryLockOut i (mk (thread i) c) q ≡ refused eoverflow (mk (thread i) c) q
+  no-lock : formed (mk (thread i) c) (any q) ≡ true → c ≡ maxCount → tryLockOut i (whole (thread i) c q) ≡ refuse eoverflow
   no-lock f k = let z : maxCount ≤ c = omega arith in rw (f, eq-eqb i i refl, le-ltb c maxCount z)
 
-  other-lock : (j : ℕ) → formed (mk (thread j) c) (any q) ≡ true → (j ≡ i → ⊥) → tryLockOut i (mk (thread j) c) q ≡ refused ebusy (mk (thread j) c) q
+  other-lock : (j : ℕ) → formed (mk (thread j) c) (any q) ≡ true → (j ≡ i → ⊥) → tryLockOut i (whole (thread j) c q) ≡ refuse ebusy
   other-lock j f n = rw (f, ne-eqb j i n)
 
-  not-locked : formed (mk nobody c) (any q) ≡ true → unlockOut i (mk nobody c) q ≡ refused einval (mk nobody c) q
+  not-locked : formed (mk nobody c) (any q) ≡ true → unlockOut i (whole nobody c q) ≡ refuse einval
   not-locked f = rw f
 
-  not-owner : (j : ℕ) → formed (mk (thread j) c) (any q) ≡ true → (j ≡ i → ⊥) → unlockOut i (mk (thread j) c) q ≡ refused eperm (mk (thread j) c) q
+  not-owner : (j : ℕ) → formed (mk (thread j) c) (any q) ≡ true → (j ≡ i → ⊥) → unlockOut i (whole (thread j) c q) ≡ refuse eperm
   not-owner j f n = rw (f, ne-eqb j i n)
 
-  one-less : formed (mk (thread i) c) (any q) ≡ true → 1 < c → unlockOut i (mk (thread i) c) q ≡ gained released (mk (thread i) (c - 1)) q
+  one-less : formed (mk (thread i) c) (any q) ≡ true → 1 < c → unlockOut i (whole (thread i) c q) ≡ accept (whole (thread i) (c - 1) q) released []
   one-less f k = rw (f, eq-eqb i i refl, lt-ltb 1 c k)
 
-now-free : (i c : ℕ) → c ≡ 1 → unlockOut i (mk (thread i) c) [] ≡ gained unlocked free []
+now-free : (i c : ℕ) → c ≡ 1 → unlockOut i (whole (thread i) c []) ≡ accept fresh unlocked []
 now-free i c k = rw (k, eq-eqb i i refl)
 
-passed-on : (i c x : ℕ) (q : List ℕ) → c ≡ 1
-    → unlockOut i (mk (thread i) c) (x ∷ q) ≡ record { num = taken (ident x); turn = record { code = transferred; queue = q; woken = woken ok x ∷ [] } }
+passed-on : (i c x : ℕ) (q : List ℕ) → c ≡ 1 → unlockOut i (whole (thread i) c (x ∷ q)) ≡ accept (whole (thread (ident x)) 1 q) transferred (woken ok x ∷ [])
 passed-on i c x q k = rw (k, eq-eqb i i refl)
 
 -- who owns it
@@ -202,13 +204,17 @@ not-itself i a = absurd (a .other (sym (ap idOf (a .is))))
 
 -- after an event, too
 inv-after : (o : Owner) (c : ℕ) (q : List ℕ) → Inv (mk o c) q → (x : Event Call)
-    → Inv (happens mutex-kind plain (record { num = mk o c; queue = q }) x .num) (happens mutex-kind plain (record { num = mk o c; queue = q }) x .turn .queue)
+    → Inv (next mutex-kind plain (whole o c q) x .num) (next mutex-kind plain (whole o c q) x .queue)
 inv-after o c q v x =
-    let t = step mutex-kind mutex-lawful plain (record { num = mk o c; queue = q }) x (record { numbers = inv-formed o c q v; queue = v .queue }) in
+    let t = step mutex-kind mutex-lawful plain (whole o c q) x (record { numbers = inv-formed o c q v; queue = v .queue }) in
     formed-inv _ _ _ (t .numbers) (t .queue)
 
+-- what a call answers and leaves is as P says
+abbrev Shows : (ℤ → Mutex → List ℕ → Type 0) → (Object Mutex → Reply (Object Mutex)) → Object Mutex → Type 0
+Shows P f s = P (answer (f s)) (left (f s) s .num) (left (f s) s .queue)
+
 abbrev TryLockMet : ℕ → Owner → ℕ → List ℕ → Type 0
-TryLockMet i o c q = TryLock i (mk o c) q (tryLockOut i (mk o c) q .turn .code) (tryLockOut i (mk o c) q .num) (tryLockOut i (mk o c) q .turn .queue)
+TryLockMet i o c q = Shows (TryLock i (mk o c) q) (tryLockOut i) (whole o c q)
 
 tries-free : (i c : ℕ) (q : List ℕ) → Inv (mk nobody c) q → TryLockMet i nobody c q
 tries-free i c q v =
@@ -272,7 +278,7 @@ tries i (thread j) c q v l = go (eqb j i) refl
 
 -- unlock
 abbrev UnlockMet : ℕ → Owner → ℕ → List ℕ → Type 0
-UnlockMet i o c q = Unlock i (mk o c) q (unlockOut i (mk o c) q .turn .code) (unlockOut i (mk o c) q .num) (unlockOut i (mk o c) q .turn .queue)
+UnlockMet i o c q = Shows (Unlock i (mk o c) q) (unlockOut i) (whole o c q)
 
 unlocks-free : (i c : ℕ) (q : List ℕ) → Inv (mk nobody c) q → UnlockMet i nobody c q
 unlocks-free i c q v =
@@ -339,33 +345,32 @@ unlocks-own i c q v =
       nested-count = λ z k. rw (one-less i c q f k);
       nested-owner = λ z k. rw (one-less i c q f k);
       nested-waiters = λ z k. rw (one-less i c q f k);
-      passed-ok = λ z k l. passed (λ m o. isOk (o .turn .code) ≡ true) k l (λ x m. refl);
-      passed-owner = λ z k l. passed (λ m o. held (o .num .owner) ≡ true) k l (λ x m. refl);
-      passed-count = λ z k l. passed (λ m o. o .num .count ≡ 1) k l (λ x m. refl);
-      passed-waiters = λ z k l. passed (λ m o. length (o .turn .queue) ≡ length m - 1) k l (λ x m. omega arith);
-      last-ok = λ z k l. last (λ o. isOk (o .turn .code) ≡ true) k l refl;
-      last-owner = λ z k l. last (λ o. o .num .owner ≡ nobody) k l refl;
-      last-count = λ z k l. last (λ o. o .num .count ≡ 0) k l refl;
-      last-waiters = λ z k l. last (λ o. length (o .turn .queue) ≡ 0) k l refl;
+      passed-ok = λ z k l. passed (λ m r n l. isOk r ≡ true) k l (λ x m. refl);
+      passed-owner = λ z k l. passed (λ m r n l. held (n .owner) ≡ true) k l (λ x m. refl);
+      passed-count = λ z k l. passed (λ m r n l. n .count ≡ 1) k l (λ x m. refl);
+      passed-waiters = λ z k l. passed (λ m r n l. length l ≡ length m - 1) k l (λ x m. omega arith);
+      last-ok = λ z k l. last (λ r n l. isOk r ≡ true) k l refl;
+      last-owner = λ z k l. last (λ r n l. n .owner ≡ nobody) k l refl;
+      last-count = λ z k l. last (λ r n l. n .count ≡ 0) k l refl;
+      last-waiters = λ z k l. last (λ r n l. length l ≡ 0) k l refl;
     }
   where
     f : formed (mk (thread i) c) (any q) ≡ true
     f = inv-formed (thread i) c q v
 
     -- who waits first gets it
-    passed : (P : List ℕ → Out Mutex → Type 0) → c ≡ 1 → 0 < length q
-        → ((x : ℕ) (m : List ℕ) → P (x ∷ m) (record { num = taken (ident x); turn = record { code = transferred; queue = m; woken = woken ok x ∷ [] } }))
-        → P q (unlockOut i (mk (thread i) c) q)
+    passed : (P : List ℕ → ℤ → Mutex → List ℕ → Type 0) → c ≡ 1 → 0 < length q → ((x : ℕ) (m : List ℕ) → P (x ∷ m) transferred (taken (ident x)) m)
+        → Shows (P q) (unlockOut i) (whole (thread i) c q)
     passed P k l p = go q l
       where
-        go : (m : List ℕ) → 0 < length m → P m (unlockOut i (mk (thread i) c) m)
+        go : (m : List ℕ) → 0 < length m → Shows (P m) (unlockOut i) (whole (thread i) c m)
         go [] h = absurd (omega arith)
         go (x ∷ m) h = rw (passed-on i c x m k) (p x m)
 
-    last : (P : Out Mutex → Type 0) → c ≡ 1 → length q ≡ 0 → P (gained unlocked free []) → P (unlockOut i (mk (thread i) c) q)
+    last : (P : ℤ → Mutex → List ℕ → Type 0) → c ≡ 1 → length q ≡ 0 → P unlocked free [] → Shows P (unlockOut i) (whole (thread i) c q)
     last P k l p = go q l
       where
-        go : (m : List ℕ) → length m ≡ 0 → P (unlockOut i (mk (thread i) c) m)
+        go : (m : List ℕ) → length m ≡ 0 → Shows P (unlockOut i) (whole (thread i) c m)
         go [] h = rw (now-free i c k) p
         go (x ∷ m) h = absurd (omega arith)
 
@@ -381,29 +386,28 @@ unlocks i (thread j) c q v = go (eqb j i) refl
 module _ (i p j c : ℕ) (q : List ℕ) (small : i < 4294967296) (valid : p < maxPriority) (v : Inv (mk (thread j) c) q) (n : j ≡ i → ⊥)
     (room : length q < maxWaiters) (absent : holds i q ≡ false) where
   -- the thread joins
-  pub lock-joins : lockOut i p running (mk (thread j) c) q
-      ≡ record { num = mk (thread j) c; turn = record { code = waits; queue = joined (entry p i) q; woken = [] } }
+  pub lock-joins : lockOut i p running (whole (thread j) c q) ≡ accept (whole (thread j) c (joined (entry p i) q)) waits []
   lock-joins = rw (inv-formed (thread j) c q v, lt-ltb p maxPriority valid, ne-eqb j i n, ident-entry p i small, absent, lt-ltb (length q) maxWaiters room)
 
-  blocks : LockBlocking (mk (thread j) c) q (lockOut i p running (mk (thread j) c) q .turn .code) (lockOut i p running (mk (thread j) c) q .num)
-      (lockOut i p running (mk (thread j) c) q .turn .queue)
+  blocks : Shows (LockBlocking (mk (thread j) c) q) (lockOut i p running) (whole (thread j) c q)
   blocks =
       let t = lock-joins in
       record {
         inv = inv-after (thread j) c q v (asks i p running small lock);
-        owner = ap (λ (o : Out Mutex). o .num .owner) t;
-        count = ap (λ (o : Out Mutex). o .num .count) t;
-        joined = λ k. ap (λ (o : Out Mutex). length (o .turn .queue)) t ∙ length-insert prio (entry p i) q ∙ sym (add-one (length q));
-        stayed = λ k. absurd (k (ap (λ (o : Out Mutex). o .turn .code) t));
+        owner = ap (λ (y : Reply (Object Mutex)). left y (whole (thread j) c q) .num .owner) t;
+        count = ap (λ (y : Reply (Object Mutex)). left y (whole (thread j) c q) .num .count) t;
+        joined = λ k. ap (λ (y : Reply (Object Mutex)). length (left y (whole (thread j) c q) .queue)) t
+            ∙ length-insert prio (entry p i) q ∙ sym (add-one (length q));
+        stayed = λ k. absurd (k (ap answer t));
       }
 
 -- what is there, or its own, the caller gets as without waiting
 lock-same : (i p : ℕ) (o : Owner) (c : ℕ) (q : List ℕ) → p < maxPriority → (o ≡ nobody) ⊎ (o ≡ thread i)
-    → lockOut i p running (mk o c) q ≡ tryLockOut i (mk o c) q
+    → lockOut i p running (whole o c q) ≡ tryLockOut i (whole o c q)
 lock-same i p o c q k (inl z) = rw (z, lt-ltb p maxPriority k)
 lock-same i p o c q k (inr z) = go (ltb c maxCount) refl
   where
-    go : (b : Bool) → ltb c maxCount ≡ b → lockOut i p running (mk o c) q ≡ tryLockOut i (mk o c) q
+    go : (b : Bool) → ltb c maxCount ≡ b → lockOut i p running (whole o c q) ≡ tryLockOut i (whole o c q)
     go true y = rw (z, lt-ltb p maxPriority k, eq-eqb i i refl, y)
     go false y = rw (z, lt-ltb p maxPriority k, eq-eqb i i refl, y)
 
@@ -420,7 +424,8 @@ module _ (h e : List ℕ) (r : ℤ) (h' : List ℕ) (m : Housed layout h e) (v :
   pub mutex-try-lock : (i : ℕ) → (own ≡ thread i → getD h 2 0 < maxCount) → TriesLock i h e r h'
       → TryLock i (layout .num h) (waiting e (getD h 3 0)) r (layout .num h') (waiting e (getD h' 3 0))
   mutex-try-lock i l d =
-      shown layout (tryLockOut i) (TryLock i (layout .num h) (waiting e (getD h 3 0))) h e r h' e (d .0) m (tries i own (getD h 2 0) (waiting e (getD h 3 0)) v l)
+      shown layout (tryLockOut i) (TryLock i (layout .num h) (waiting e (getD h 3 0))) h e r h' e (d .0) m
+      (tries i own (getD h 2 0) (waiting e (getD h 3 0)) v l)
 
   pub mutex-lock-blocking : (i p : ℕ) (e' : List ℕ) → i < 4294967296 → p < maxPriority → Another i own → length (waiting e (getD h 3 0)) < maxWaiters
       → holds i (waiting e (getD h 3 0)) ≡ false
@@ -431,38 +436,39 @@ module _ (h e : List ℕ) (r : ℤ) (h' : List ℕ) (m : Housed layout h e) (v :
 
   -- upstream demands another's; what is free or its own, the thread gets as by try_lock
   pub mutex-lock-takes : (i p : ℕ) (e' : List ℕ) → p < maxPriority → (own ≡ nobody) ⊎ (own ≡ thread i) → Locks i p running h e r h' e'
-      → Does layout (tryLockOut i) h e r h' e'
+      → Did place (tryLockOut i) h e r h' e'
   mutex-lock-takes i p e' k o d =
-      alike layout (lockOut i p running) (tryLockOut i) h e r h' e'
+      did-alike place (lockOut i p running) (tryLockOut i) h e
       (is-on layout (lockOut i p running) h e m ∙ lock-same i p own (getD h 2 0) (waiting e (getD h 3 0)) k o ∙ sym (is-on layout (tryLockOut i) h e m)) (d .0)
 
   pub mutex-unlock : (i w w' : ℕ) → Unlocks i h e w r h' w'
       → Unlock i (layout .num h) (waiting e (getD h 3 0)) r (layout .num h') (waiting e (getD h' 3 0))
   mutex-unlock i w w' d =
-      shown layout (unlockOut i) (Unlock i (layout .num h) (waiting e (getD h 3 0))) h e r h' e (d .0 .0) m (unlocks i own (getD h 2 0) (waiting e (getD h 3 0)) v)
+      shown layout (unlockOut i) (Unlock i (layout .num h) (waiting e (getD h 3 0))) h e r h' e (d .0 .0) m
+      (unlocks i own (getD h 2 0) (waiting e (getD h 3 0)) v)
 
-  gets : (g : Mutex → List ℕ → ℤ) → r ≡ on layout (getOut g) h e .turn .code → r ≡ g (layout .num h) (waiting e (getD h 3 0))
-  gets g d = d ∙ rw (is-on layout (getOut g) h e m, inv-formed own (getD h 2 0) (waiting e (getD h 3 0)) v)
+  gets : (g : Object Mutex → ℤ) → Gets g h e r → r ≡ g (place .object h e)
+  gets g d = d ∙ looks-is place h e (reads mutex-kind g) (housed-formed layout h e m) ∙ rw (inv-formed own (getD h 2 0) (waiting e (getD h 3 0)) v)
 
   pub is-locked : SaysLocked h e r → IsLocked (layout .num h) r
-  is-locked d = rw (gets (λ m q. isLocked m) d) (locked own (getD h 2 0) (waiting e (getD h 3 0)) v)
+  is-locked d = rw (gets (λ m. isLocked (m .num)) d) (locked own (getD h 2 0) (waiting e (getD h 3 0)) v)
 
   pub lock-count-get : GetsLockCount h e r → LockCountGet (layout .num h) r
-  lock-count-get d = gets (λ m q. pos (m .count)) d
+  lock-count-get d = gets (λ m. pos (m .num .count)) d
 
   pub num-waiters : CountsWaiters h e r → NumWaiters (waiting e (getD h 3 0)) r
-  num-waiters d = gets (λ m q. pos (length q)) d
+  num-waiters d = gets (λ m. pos (length (m .queue))) d
 
   pub owner-get : GetsOwner h e r → OwnerGet (layout .num h) r
-  owner-get d = gets (λ m q. ownerId (m .owner)) d
+  owner-get d = gets (λ m. ownerId (m .num .owner)) d
 
   -- upstream demands fewer than 2^32 - 1 locks; the owner that has as many is refused
   pub overflow-refuses : (i : ℕ) → own ≡ thread i → getD h 2 0 ≡ maxCount → TriesLock i h e r h' → (r ≡ eoverflow) × (h' ≡ h)
   overflow-refuses i o k d =
       let f = inv-formed (thread i) (getD h 2 0) (waiting e (getD h 3 0)) (rw o at v) in
-      let y : on layout (tryLockOut i) h e .turn .code
-      ≡ eoverflow = rw (is-on layout (tryLockOut i) h e m, o, no-lock i (getD h 2 0) (waiting e (getD h 3 0)) f k) in
-      let u = unchanged layout (tryLockOut i) h e r h' e 138 (d .0) y in
+      let y : reply place (tryLockOut i) h e ≡ refuse eoverflow =
+      is-on layout (tryLockOut i) h e m ∙ rw o (no-lock i (getD h 2 0) (waiting e (getD h 3 0)) f k) in
+      let u = kept place (tryLockOut i) h e (d .0) y in
       (u .0, u .1)
 
 -- what upstream demands is refused here: a header that is not as it should be
@@ -474,16 +480,17 @@ module _ (h e : List ℕ) (r : ℤ) (h' : List ℕ) (s : sane mutex-kind layout 
   read k = (k .0, k .1)
 
   pub try-lock-refuses : (i : ℕ) → TriesLock i h e r h' → Stays
-  try-lock-refuses i d = read (barred mutex-kind layout h e (tryLockOut i) r h' e (λ n q z. rw z) s (d .0))
+  try-lock-refuses i d = read (kept place (tryLockOut i) h e (d .0) (call-no mutex-kind layout plain (named i) tryLock h e s))
 
   pub lock-refuses : (i p st : ℕ) (e' : List ℕ) → Locks i p st h e r h' e' → Stays × (e' ≡ e)
-  lock-refuses i p st e' d = let k = barred mutex-kind layout h e (lockOut i p st) r h' e' (λ n q z. rw z) s (d .0) in ((k .0, k .1), k .2)
+  lock-refuses i p st e' d =
+      let k = kept place (lockOut i p st) h e (d .0) (call-no mutex-kind layout plain (object.thread i p st) lock h e s) in ((k .0, k .1), k .2)
 
   pub unlock-refuses : (i w w' : ℕ) → Unlocks i h e w r h' w' → Stays
-  unlock-refuses i w w' d = read (barred mutex-kind layout h e (unlockOut i) r h' e (λ n q z. rw z) s (d .0 .0))
+  unlock-refuses i w w' d = read (kept place (unlockOut i) h e (d .0 .0) (call-no mutex-kind layout plain (named i) unlock h e s))
 
-  pub get-refuses : (g : Mutex → List ℕ → ℤ) → r ≡ on layout (getOut g) h e .turn .code → r ≡ einval
-  get-refuses g d = d ∙ ap (λ (o : Out Mutex). o .turn .code) (malformed mutex-kind layout h e (getOut g) (λ n q z. rw z) s)
+  pub get-refuses : (g : Object Mutex → ℤ) → Gets g h e r → r ≡ einval
+  get-refuses g d = d ∙ sym (unseen mutex-kind layout g h e s)
 
 -- upstream's lemmas, which end in `ensures true`
 pub owner-lock-count : (xs : List (Event Call)) → OwnerCount xs
@@ -496,40 +503,30 @@ lock-unlock-roundtrip i = record { locked = refl; owner = refl; unlocked = rw (e
 
 -- the thread i has c locks, and nobody waits
 abbrev alone : ℕ → ℕ → Object Mutex
-alone i c = record { num = mk (thread i) c; queue = [] }
+alone i c = whole (thread i) c []
 
--- what a call leaves
-abbrev left : Out Mutex → Object Mutex
-left o = record { num = o .num; queue = o .turn .queue }
+locks-more : (i k : ℕ) → suc k ≤ maxCount → after (times (suc k) (calls i tryLock)) ≡ alone i (suc k)
+locks-more i zero l = refl
+locks-more i (suc k) l =
+    ap (λ (s : Object Mutex). left (tryLockOut i s) s) (locks-more i k (omega arith))
+    ∙ ap (λ (y : Reply (Object Mutex)). left y (alone i (suc k))) (next-lock i (suc k) [] (lt-ltb 0 (suc k) (omega arith)) (omega arith))
 
-run-append : (s : Object Mutex) (xs ys : List (Event Call)) → run mutex-kind plain s (xs ++ ys) ≡ run mutex-kind plain (run mutex-kind plain s xs) ys
-run-append s [] ys = refl
-run-append s (x ∷ xs) ys = run-append (next mutex-kind plain s x) xs ys
-
-locks-more : (i k c : ℕ) → 0 < c → c + k ≤ maxCount → run mutex-kind plain (alone i c) (times k (calls i tryLock)) ≡ alone i (c + k)
-locks-more i zero c h l = ap (alone i) (omega arith)
-locks-more i (suc k) c h l =
-    ap (λ (o : Out Mutex). run mutex-kind plain (left o) (times k (calls i tryLock))) (next-lock i c [] (lt-ltb 0 c h) (omega arith))
-    ∙ locks-more i k (suc c) (omega arith) (omega arith)
-    ∙ ap (alone i) (omega arith)
-
-unlocks-all : (i k : ℕ) → run mutex-kind plain (alone i (suc k)) (times (suc k) (calls i unlock)) ≡ fresh
-unlocks-all i zero = ap left (now-free i 1 refl)
-unlocks-all i (suc k) =
+-- j unlocks of them, and k locks are left; with the last it is free
+unlocks-some : (i j k : ℕ) (past : List (Event Call)) → after past ≡ alone i (j + suc k) → after (times j (calls i unlock) ++ past) ≡ alone i (suc k)
+unlocks-some i zero k past a = a ∙ ap (alone i) (omega arith)
+unlocks-some i (suc j) k past a =
     let z : suc (suc k) - 1 ≡ suc k = omega arith in
-    ap (λ (o : Out Mutex). run mutex-kind plain (left o) (times (suc k) (calls i unlock)))
-    (one-less i (suc (suc k)) [] (lt-ltb 0 (suc (suc k)) (omega arith)) (omega arith))
-    ∙ ap (λ (c : ℕ). run mutex-kind plain (alone i c) (times (suc k) (calls i unlock))) z
-    ∙ unlocks-all i k
+    ap (λ (s : Object Mutex). left (unlockOut i s) s) (unlocks-some i j (suc k) past (a ∙ ap (alone i) (omega arith)))
+    ∙ ap (λ (y : Reply (Object Mutex)). left y (alone i (suc (suc k)))) (one-less i (suc (suc k)) [] (lt-ltb 0 (suc (suc k)) (omega arith)) (omega arith))
+    ∙ ap (alone i) z
 
 pub count-tracks-depth : (i n : ℕ) → 0 < n → n ≤ maxCount → Depth i n
 count-tracks-depth i zero h l = absurd (omega arith)
 count-tracks-depth i (suc k) h l =
-    let a : after (times (suc k) (calls i tryLock)) ≡ alone i (suc k) = locks-more i k 1 (omega arith) (omega arith) ∙ ap (alone i) (omega arith) in
+    let a = locks-more i k l in
     record {
       locked = a;
       back =
-          run-append fresh (times (suc k) (calls i tryLock)) (times (suc k) (calls i unlock))
-          ∙ ap (λ (s : Object Mutex). run mutex-kind plain s (times (suc k) (calls i unlock))) a
-          ∙ unlocks-all i k;
+          ap (λ (s : Object Mutex). left (unlockOut i s) s) (unlocks-some i k 0 (times (suc k) (calls i tryLock)) (a ∙ ap (alone i) (omega arith)))
+          ∙ ap (λ (y : Reply (Object Mutex)). left y (alone i 1)) (now-free i 1 refl);
     }

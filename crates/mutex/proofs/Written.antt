@@ -1,7 +1,7 @@
 -- How the owner is written, by what was stored. Assumes nothing.
 use mathlib.Core.Path.{_≡_, refl, sym, ap, _∙_}
 use mathlib.Core.Bool.{Bool, true, false, cond}
-use mathlib.Core.List.{List, []}
+use mathlib.Core.List.{List, [], _∷_}
 use Prim.Native.Nat.{ℕ, zero, suc, _≤_, _<_}
 use native.Mathlib.Omega.{arith}
 use lib.Dec.{ltb}
@@ -11,43 +11,43 @@ use Rattle.seq.proofs.Back.{back-length}
 use Rattle.seq.proofs.Order.{length-insert}
 use Rattle.thread.specs.Code.{ok, enomem, ebusy}
 use Rattle.thread.specs.Caller.{callerCode}
+use Rattle.store.specs.Store.{Reply, refuse, accept, left, asked, Did}
+use Rattle.store.proofs.Laws.{kept-bad}
+use Rattle.store.proofs.Histories.{done}
 use Rattle.wait_queue.specs.Queue.{maxWaiters, entry, ident, prio, waiting, roomy, holds, joined}
-use Rattle.wait_queue.specs.Turn.{refuse, asked, at, waits, pend, unpendFirst}
-use Rattle.wait_queue.specs.Post.{Does, Pends}
+use Rattle.wait_queue.specs.Turn.{waitQueue, waits, pend, unpendFirst}
+use Rattle.wait_queue.specs.Post.{Pends}
 use Rattle.mutex.specs.Post.{Written}
 use Rattle.seq.proofs.Words.{spell}
 
 -- a queue does not become shorter by who joins it, and does by who is woken
 module _ (n : ℕ) (e : List ℕ) (r : ℤ) (m : ℕ) (e' : List ℕ) where
-  pub no-shorter : (i p st : ℕ) → Pends i p st n e r m e' → n ≤ m
-  no-shorter i p st d =
-      let l : m ≡ length (at (pend i p st) n e .queue) = sym (back-length e' m) ∙ ap length (d .queue) in
-      let b = back-length e n in
-      let k = go (roomy n e) (callerCode p st) (holds (ident (entry p i)) (waiting e n)) (ltb (length (waiting e n)) maxWaiters) in
-      omega arith
-    where
-      go : (a : Bool) (z : ℤ) (b c : Bool)
-          → length (waiting e n)
-          ≤ length
-          (cond a
-          (asked z (waiting e n)
-          (cond b
-          (refuse ebusy (waiting e n))
-          (cond c (record { code = waits; queue = joined (entry p i) (waiting e n); woken = [] }) (refuse enomem (waiting e n)))))
-          (refuse (negsuc 21) (waiting e n))
-          .queue)
-      go false z b c = omega arith
-      go true (negsuc z) b c = omega arith
-      go true (pos z) true c = omega arith
-      go true (pos z) false true = omega (arith, length-insert prio (entry p i) (waiting e n))
-      go true (pos z) false false = omega arith
+  now : (f : List ℕ → Reply (List ℕ)) → roomy n e ≡ true → Did waitQueue f (n ∷ []) e r (m ∷ []) e' → m ≡ length (left (f (waiting e n)) (waiting e n))
+  now f o d = sym (back-length e' m) ∙ ap length (done waitQueue f (n ∷ []) e o d .1)
 
-  pub shorter : roomy n e ≡ true → 0 < n → Does (unpendFirst ok) n e r m e' → m < n
-  shorter o b d = go n o b (sym (back-length e' m) ∙ ap length (d .queue))
+  pub no-shorter : (i p st : ℕ) → Pends i p st n e r m e' → n ≤ m
+  no-shorter i p st d = by (roomy n e) refl
     where
-      go : (c : ℕ) → roomy c e ≡ true → 0 < c → m ≡ length (at (unpendFirst ok) c e .queue) → m < c
-      go zero o b l = absurd (omega arith)
-      go (suc c) o b l = let x : m ≡ length (waiting e c) = rw o at l in omega (arith, back-length e c)
+      go : (z : ℤ) (b c : Bool)
+          → length (waiting e n)
+          ≤ length (left (asked z (cond b (refuse ebusy) (cond c (accept (joined (entry p i) (waiting e n)) waits []) (refuse enomem)))) (waiting e n))
+      go (negsuc z) b c = omega arith
+      go (pos z) true c = omega arith
+      go (pos z) false true = omega (arith, length-insert prio (entry p i) (waiting e n))
+      go (pos z) false false = omega arith
+
+      by : (a : Bool) → roomy n e ≡ a → n ≤ m
+      by true o =
+          let k = go (callerCode p st) (holds (ident (entry p i)) (waiting e n)) (ltb (length (waiting e n)) maxWaiters) in
+          omega (arith, now (pend i p st) o d, back-length e n)
+      by false o = omega (arith, ap (λ (l : List ℕ). getD l 0 0) (kept-bad waitQueue (pend i p st) (n ∷ []) e d o .1))
+
+  pub shorter : roomy n e ≡ true → 0 < n → Did waitQueue (unpendFirst ok) (n ∷ []) e r (m ∷ []) e' → m < n
+  shorter o b d = go n b (now (unpendFirst ok) o d)
+    where
+      go : (c : ℕ) → 0 < c → m ≡ length (left (unpendFirst ok (waiting e c)) (waiting e c)) → m < c
+      go zero b l = absurd (omega arith)
+      go (suc c) b l = omega (arith, l, back-length e c)
 
 module _ (h h' : List ℕ) where
   stays : getD h' 0 0 ≡ getD h 0 0 → getD h' 1 0 ≡ getD h 1 0 → getD h 3 0 ≤ getD h' 3 0 → Written h h'
@@ -89,7 +89,7 @@ module _ (h : List ℕ) (k : 4 ≤ length h) where
         stays h (set h 3 m) (rw (spell 4 h k) refl) (rw (spell 4 h k) refl) (omega (arith, no-shorter (getD h 3 0) e r m e' i p st d))
 
     -- it is handed over
-    pub passes : (i : ℕ) → roomy (getD h 3 0) e ≡ true → 0 < getD h 3 0 → Does (unpendFirst ok) (getD h 3 0) e r m e'
+    pub passes : (i : ℕ) → roomy (getD h 3 0) e ≡ true → 0 < getD h 3 0 → Did waitQueue (unpendFirst ok) (getD h 3 0 ∷ []) e r (m ∷ []) e'
         → Written h (set (set (set (set h 3 m) 0 1) 1 i) 2 1)
     passes i o b d =
         let l : getD (set (set (set (set h 3 m) 0 1) 1 i) 2 1) 3 0 ≡ m = rw (spell 4 h k) refl in

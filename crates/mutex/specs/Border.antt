@@ -6,7 +6,7 @@ use mathlib.Core.Logic.{_⊎_}
 use Prim.Native.Nat.{ℕ, _≤_, _<_}
 use lib.IntN.{ℤ}
 use Rattle.thread.specs.Code.{eperm, ebusy, einval, eoverflow}
-use Rattle.wait_queue.specs.Post.{Refused}
+use Rattle.store.specs.Store.{Refused}
 use Rattle.mutex.specs.Mutex.{maxCount}
 use Rattle.mutex.specs.Post.{LockDecided, UnlockDecided}
 

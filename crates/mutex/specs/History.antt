@@ -5,16 +5,18 @@ use mathlib.Core.List.{List, [], _∷_}
 use Prim.Native.Nat.{ℕ, suc, _-_, _≤_, _<_}
 use lib.Dec.{eqb}
 use lib.IntN.{ℤ, pos, negsuc}
+use Rattle.store.specs.Store.{answer}
 use Rattle.wait_queue.specs.Queue.{holds}
 use Rattle.kind.specs.Kind.{plain}
-use Rattle.kind.specs.History.{Object, Event, calls, asks, leaves, happens, next, run, Queued}
+use Rattle.kind.specs.Object.{Object}
+use Rattle.kind.specs.History.{Event, calls, asks, leaves, happens, run, Queued}
 use Rattle.mutex.specs.Mutex.{Owner, nobody, thread, Mutex, Call, lock, tryLock, unlock, release, owns, maxCount, free, mutex-kind}
 
 -- a new mutex
 abbrev pub fresh : Object Mutex
 fresh = record { num = free; queue = [] }
 
--- after the events xs
+-- after the events xs, the last in front
 abbrev pub after : List (Event Call) → Object Mutex
 after xs = run mutex-kind plain fresh xs
 
@@ -38,8 +40,8 @@ counts release r d = d
 
 -- after an event: a call of the owner counts, and no other
 abbrev pub tally : Object Mutex → Event Call → ℕ → ℕ
-tally s (calls i k) d = cond (owns i (s .num .owner)) (counts k (happens mutex-kind plain s (calls i k) .turn .code) d) d
-tally s (asks i p st h k) d = cond (owns i (s .num .owner)) (counts k (happens mutex-kind plain s (asks i p st h k) .turn .code) d) d
+tally s (calls i k) d = cond (owns i (s .num .owner)) (counts k (answer (happens mutex-kind plain s (calls i k))) d) d
+tally s (asks i p st h k) d = cond (owns i (s .num .owner)) (counts k (answer (happens mutex-kind plain s (asks i p st h k))) d) d
 tally s (leaves i) d = d
 
 -- who becomes the owner has one lock
@@ -47,16 +49,15 @@ abbrev pub begins : Owner → ℕ
 begins nobody = 0
 begins (thread i) = 1
 
--- the owner's locks minus its unlocks since it became the owner, from d on
-abbrev pub depth : Object Mutex → List (Event Call) → ℕ → ℕ
-depth s [] d = d
-depth s (x ∷ xs) d =
-    depth (next mutex-kind plain s x) xs
-    (cond (same (s .num .owner) (next mutex-kind plain s x .num .owner)) (tally s x d) (begins (next mutex-kind plain s x .num .owner)))
+-- the owner's locks minus its unlocks since it became the owner
+abbrev pub depth : List (Event Call) → ℕ
+depth [] = 0
+depth (x ∷ past) =
+    cond (same (after past .num .owner) (after (x ∷ past) .num .owner)) (tally (after past) x (depth past)) (begins (after (x ∷ past) .num .owner))
 
 pub record Promise (xs : List (Event Call)) : Type 0 where
   -- the count is the owner's locks minus its unlocks since it became the owner
-  pub depth : after xs .num .count ≡ depth fresh xs 0
+  pub depth : after xs .num .count ≡ depth xs
   -- an owner has at least one lock and at most 2^32 - 1, and a free mutex none
   pub locked : (i : ℕ) → after xs .num .owner ≡ thread i → 0 < after xs .num .count
   pub small : after xs .num .count ≤ maxCount

@@ -9,41 +9,40 @@ use lib.IntN.{ℤ, pos}
 use lib.ListN.{length, getD}
 use Rattle.seq.specs.List.{any}
 use Rattle.thread.specs.Code.{enoent}
+use Rattle.store.specs.Store.{Reply, answer, Place, reply, Did, looks, Hands}
 use Rattle.wait_queue.specs.Queue.{ident, waiting, holds, Well}
 use Rattle.kind.specs.Verdict.{keep, park, wake, Verdict, deny, allow}
 use Rattle.kind.specs.Kind.{judge, plain}
 use Rattle.kind.specs.Object as object
-use Rattle.kind.specs.Object.{Out, named, anyone, carried, call, looks, Layout, on, Does, Started, sane}
-use Rattle.kind.specs.Post.{Tells}
+use Rattle.kind.specs.Object.{Object, named, anyone, carried, call, reads, Layout, standing, Opened, sane}
 use Rattle.mutex.specs.Mutex.{Owner, nobody, thread, Mutex, Call, lock, tryLock, unlock, release, held, formed, free, unlocked, passes, mutex-kind}
 
 abbrev pub ownerIn : ℕ → ℕ → Owner
 ownerIn flag i = cond (ltb 0 flag) (thread i) nobody
 
 abbrev pub layout : Layout Mutex
-layout = record { words = 4; num = λ h. record { owner = ownerIn (getD h 0 0) (getD h 1 0); count = getD h 2 0 }; len = 3 }
+layout = record { len = 3; num = λ h. record { owner = ownerIn (getD h 0 0) (getD h 1 0); count = getD h 2 0 } }
+
+abbrev pub place : Place (Object Mutex)
+place = standing layout
 
 -- by the thread i
-abbrev pub tryLockOut : ℕ → Mutex → List ℕ → Out Mutex
+abbrev pub tryLockOut : ℕ → Object Mutex → Reply (Object Mutex)
 tryLockOut i = call mutex-kind plain (named i) tryLock
 
-abbrev pub unlockOut : ℕ → Mutex → List ℕ → Out Mutex
+abbrev pub unlockOut : ℕ → Object Mutex → Reply (Object Mutex)
 unlockOut i = call mutex-kind plain (named i) unlock
 
 -- by the thread i of priority p in the state st
-abbrev pub lockOut : ℕ → ℕ → ℕ → Mutex → List ℕ → Out Mutex
+abbrev pub lockOut : ℕ → ℕ → ℕ → Object Mutex → Reply (Object Mutex)
 lockOut i p st = call mutex-kind plain (object.thread i p st) lock
 
-abbrev pub releaseOut : ℕ → ℕ → ℕ → Mutex → List ℕ → Out Mutex
+abbrev pub releaseOut : ℕ → ℕ → ℕ → Object Mutex → Reply (Object Mutex)
 releaseOut i p st = call mutex-kind plain (object.thread i p st) release
 
 -- the last unlock alone, whoever calls and whatever the numbers are
-abbrev pub passOut : Mutex → List ℕ → Out Mutex
-passOut m q = carried anyone (passes (map ident q)) m q
-
--- a number of a mutex that is as it should be
-abbrev pub getOut : (Mutex → List ℕ → ℤ) → Mutex → List ℕ → Out Mutex
-getOut f = looks mutex-kind f
+abbrev pub passOut : Object Mutex → Reply (Object Mutex)
+passOut s = carried anyone (passes (map ident (s .queue))) s
 
 -- 1: somebody owns it; 0: nobody
 abbrev pub isLocked : Mutex → ℤ
@@ -73,39 +72,43 @@ apart (thread i) q = cond (holds i q) false true
 
 -- a new mutex
 abbrev pub Starts : List ℕ → ℤ → List ℕ → Type 0
-Starts h r h' = Started mutex-kind layout free h r h' × Written h h'
+Starts h r h' = Opened mutex-kind layout free h r h' × Written h h'
 
 -- the thread i owns it, once more or for the first time, if it can
 abbrev pub TriesLock : ℕ → List ℕ → List ℕ → ℤ → List ℕ → Type 0
-TriesLock i h e r h' = Does layout (tryLockOut i) h e r h' e × Written h h'
+TriesLock i h e r h' = Did place (tryLockOut i) h e r h' e × Written h h'
 
 -- the thread i of priority p, in the state st, owns it, or waits
 abbrev pub Locks : ℕ → ℕ → ℕ → List ℕ → List ℕ → ℤ → List ℕ → List ℕ → Type 0
-Locks i p st h e r h' e' = Does layout (lockOut i p st) h e r h' e' × Written h h'
+Locks i p st h e r h' e' = Did place (lockOut i p st) h e r h' e' × Written h h'
 
 -- the first that waits owns it, is woken, and told in a word; or it is free
 abbrev pub Passes : List ℕ → List ℕ → ℕ → ℤ → List ℕ → ℕ → Type 0
-Passes h e w r h' w' = Tells layout passOut h e w r h' w' × Written h h'
+Passes h e w r h' w' = Hands place passOut h e w r h' w' × Written h h'
 
 -- the thread i gives one lock back; the last is passed on
 abbrev pub Unlocks : ℕ → List ℕ → List ℕ → ℕ → ℤ → List ℕ → ℕ → Type 0
-Unlocks i h e w r h' w' = Tells layout (unlockOut i) h e w r h' w' × Written h h'
+Unlocks i h e w r h' w' = Hands place (unlockOut i) h e w r h' w' × Written h h'
 
 -- what a wait that gives the mutex back would be answered by it
 abbrev pub ReleaseDecided : ℕ → ℕ → ℕ → List ℕ → List ℕ → ℤ → Type 0
-ReleaseDecided i p st h e r = r ≡ on layout (releaseOut i p st) h e .turn .code
+ReleaseDecided i p st h e r = r ≡ answer (reply place (releaseOut i p st) h e)
+
+-- a number of a mutex that is as it should be
+abbrev pub Gets : (Object Mutex → ℤ) → List ℕ → List ℕ → ℤ → Type 0
+Gets f h e r = r ≡ looks place (reads mutex-kind f) h e
 
 abbrev pub SaysLocked : List ℕ → List ℕ → ℤ → Type 0
-SaysLocked h e r = r ≡ on layout (getOut (λ m q. isLocked m)) h e .turn .code
+SaysLocked = Gets (λ s. isLocked (s .num))
 
 abbrev pub GetsLockCount : List ℕ → List ℕ → ℤ → Type 0
-GetsLockCount h e r = r ≡ on layout (getOut (λ m q. pos (m .count))) h e .turn .code
+GetsLockCount = Gets (λ s. pos (s .num .count))
 
 abbrev pub CountsWaiters : List ℕ → List ℕ → ℤ → Type 0
-CountsWaiters h e r = r ≡ on layout (getOut (λ m q. pos (length q))) h e .turn .code
+CountsWaiters = Gets (λ s. pos (length (s .queue)))
 
 abbrev pub GetsOwner : List ℕ → List ℕ → ℤ → Type 0
-GetsOwner h e r = r ≡ on layout (getOut (λ m q. ownerId (m .owner))) h e .turn .code
+GetsOwner = Gets (λ s. ownerId (s .num .owner))
 
 -- the answer is true exactly if the whole mutex is as it should be
 pub record Audits (h e : List ℕ) (r : Bool) : Type 0 where

@@ -8,6 +8,7 @@ use lib.IntN.{ℤ, pos, negsuc}
 use lib.ListN.{length, getD}
 use Rattle.thread.specs.Code.{ok, eperm, ebusy, einval, eoverflow}
 use Rattle.thread.specs.Upstream.{Tells}
+use Rattle.store.specs.Store.{answer}
 use Rattle.wait_queue.specs.Queue.{ident, Well}
 use Rattle.wait_queue.specs.Turn.{waits}
 use Rattle.wait_queue.specs.Upstream.{FirstIsWoken}
@@ -189,10 +190,10 @@ OwnerCount xs = Inv (after xs .num) (after xs .queue)
 
 -- lemma_lock_unlock_roundtrip: a lock of a new mutex, then an unlock, is a new mutex; with the answers of both
 pub record Roundtrip (i : ℕ) : Type 0 where
-  pub locked : tryLockOut i free [] .turn .code ≡ ok
+  pub locked : answer (tryLockOut i fresh) ≡ ok
   pub owner : after (calls i tryLock ∷ []) .num ≡ taken i
-  pub unlocked : unlockOut i (taken i) [] .turn .code ≡ unlocked
-  pub back : after (calls i tryLock ∷ calls i unlock ∷ []) ≡ fresh
+  pub unlocked : answer (unlockOut i (record { num = taken i; queue = [] })) ≡ unlocked
+  pub back : after (calls i unlock ∷ calls i tryLock ∷ []) ≡ fresh
 
 -- n times the event x
 abbrev pub times : ℕ → Event Call → List (Event Call)
@@ -202,4 +203,4 @@ times (suc n) x = x ∷ times n x
 -- lemma_reentrancy_count_tracks_depth: after n locks by one thread the count is n, and after n unlocks it is a new mutex
 pub record Depth (i n : ℕ) : Type 0 where
   pub locked : after (times n (calls i tryLock)) ≡ record { num = record { owner = thread i; count = n }; queue = [] }
-  pub back : after (times n (calls i tryLock) ++ times n (calls i unlock)) ≡ fresh
+  pub back : after (times n (calls i unlock) ++ times n (calls i tryLock)) ≡ fresh
