@@ -56,5 +56,5 @@ module _ {c l : ℕ} {h : List ℕ} {r : ℤ} {h' : List ℕ} (f : formed (recor
   pub made : {e : List ℕ} → leb maxWaiters (length e) ≡ true → Is (fresh c l) h' e
   made {e} m =
       let z : 0 ≤ maxWaiters = omega arith in
-      let b = d e (rw (le-leb 0 maxWaiters z, m)) .made made-code in
+      let b = d .with e (rw (le-leb 0 maxWaiters z, m)) .made made-code in
       is-now (b .formed) (b .object)

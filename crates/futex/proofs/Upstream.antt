@@ -111,7 +111,7 @@ inv-after v q g x = step futex-kind futex-lawful plain (obj v q) x (record { num
 -- init
 pub futex-init : (val : ℕ) (h : List ℕ) (r : ℤ) (h' e : List ℕ) → 2 ≤ length h → Starts val h r h' → (r ≡ ok) × Init val (layout .num h') (waiting e (getD h' 1 0))
 futex-init val h r h' e k s =
-    let t = s blank blank-roomy in
+    let t = s .with blank blank-roomy in
     let c : r ≡ ok = t .code ∙ rw (le-leb 2 (length h) k) in
     let o = t .made c .object in
     let n : getD h' 1 0 ≡ 0 = sym (back-length blank (getD h' 1 0)) ∙ ap (λ (x : Object Futex). length (x .queue)) o in

@@ -222,10 +222,10 @@ module _ (K : Kind) (L : Layout (K .Num)) (g : Object (K .Num) → ℤ) (h e : L
 -- a new object
 module _ (K : Kind) (L : Layout (K .Num)) (n : K .Num) (h : List ℕ) where
   pub opens-short : length h < suc (L .len) → Opened K L n h einval h
-  opens-short b e g = start-short b
+  opens-short b = record { with = λ e g. start-short b }
 
   pub opens-bad : suc (L .len) ≤ length h → K .formed n false ≡ false → Opened K L n h einval h
-  opens-bad b f e g = start-bad b f
+  opens-bad b f = record { with = λ e g. start-bad b f }
 
   pub opens-made : (h' : List ℕ) → suc (L .len) ≤ length h → K .formed n false ≡ true → Header L h n 0 h' → Opened K L n h ok h'
-  opens-made h' b f t e g = start-made b f (opened-so L h e n h' b t g)
+  opens-made h' b f t = record { with = λ e g. start-made b f (opened-so L h e n h' b t g) }

@@ -74,18 +74,18 @@ module _ (K : Kind) (L : Layout (K .Num)) (n : K .Num) (h : List ℕ) where
       → (L .num (x .1) ≡ L .num (y .1) → getD (x .1) (L .len) 0 ≡ getD (y .1) (L .len) 0 → Alike (suc (L .len)) (x .1) (y .1))
       → x ≡ y
   same-start x y m k a =
-      let p = m blank blank-roomy in
-      let q = k blank blank-roomy in
+      let p = m .with blank blank-roomy in
+      let q = k .with blank blank-roomy in
       let r : x .0 ≡ y .0 = p .code ∙ sym (q .code) in
       let w = go (leb (suc (L .len)) (length h)) (K .formed n false) (p .code) (q .code) in
       λ i. (r i, w i)
     where
       made : x .0 ≡ ok → y .0 ≡ ok → x .1 ≡ y .1
       made u v =
-          same-memory L h blank (record { num = n; queue = [] }) (x .1) blank (y .1) blank (m blank blank-roomy .made u) (k blank blank-roomy .made v) a .0
+          same-memory L h blank (record { num = n; queue = [] }) (x .1) blank (y .1) blank (m .with blank blank-roomy .made u) (k .with blank blank-roomy .made v) a .0
 
       kept : x .0 ≡ einval → y .0 ≡ einval → x .1 ≡ y .1
-      kept u v = m blank blank-roomy .kept 21 u .0 ∙ sym (k blank blank-roomy .kept 21 v .0)
+      kept u v = m .with blank blank-roomy .kept 21 u .0 ∙ sym (k .with blank blank-roomy .kept 21 v .0)
 
       go : (b c : Bool) → x .0 ≡ cond b (cond c ok einval) einval → y .0 ≡ cond b (cond c ok einval) einval → x .1 ≡ y .1
       go true true = made

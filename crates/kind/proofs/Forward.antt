@@ -136,12 +136,12 @@ module _ (K : Kind) (L : Layout (K .Num)) (v : ℕ → K .Wish) (i p : ℕ) (k :
 -- a new object: its answer, its numbers and the length of its queue; a header that is too short is refused, and stays
 module _ (K : Kind) (L : Layout (K .Num)) (n : K .Num) (h : List ℕ) (r : ℤ) (h' : List ℕ) (s : Opened K L n h r h') where
   pub opened-code : r ≡ cond (leb (suc (L .len)) (length h)) (cond (K .formed n false) ok einval) einval
-  opened-code = s blank blank-roomy .code
+  opened-code = s .with blank blank-roomy .code
 
   pub opened-made : r ≡ ok → (L .num h' ≡ n) × (getD h' (L .len) 0 ≡ 0)
   opened-made z =
-      let o = s blank blank-roomy .made z .object in
+      let o = s .with blank blank-roomy .made z .object in
       (ap (λ (x : Object (K .Num)). x .num) o, sym (back-length blank (getD h' (L .len) 0)) ∙ ap (λ (x : Object (K .Num)). length (x .queue)) o)
 
   pub start-refused : length h < suc (L .len) → (r ≡ einval) × (h' ≡ h)
-  start-refused b = let z : r ≡ einval = opened-code ∙ rw (lt-leb (suc (L .len)) (length h) b) in (z, s blank blank-roomy .kept 21 z .0)
+  start-refused b = let z : r ≡ einval = opened-code ∙ rw (lt-leb (suc (L .len)) (length h) b) in (z, s .with blank blank-roomy .kept 21 z .0)

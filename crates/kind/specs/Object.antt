@@ -78,8 +78,8 @@ abbrev pub standing : {N : Type 0} → Layout N → Place (Object N)
 standing {N} L = shaped (λ (x : N × List ℕ). record { num = x .0; queue = x .1 }) (numbers (L .len) (L .num) ⊗ behind (L .len) waitQueue)
 
 -- a new object with the numbers n, on which nobody waits, whatever entries it is to have
-abbrev pub Opened : (K : Kind) → Layout (K .Num) → K .Num → List ℕ → ℤ → List ℕ → Type 0
-Opened K L n h r h' = (e : List ℕ) → roomy 0 e ≡ true → Started (standing L) (K .formed n false) (record { num = n; queue = [] }) h e r h' e
+pub record Opened (K : Kind) (L : Layout (K .Num)) (n : K .Num) (h : List ℕ) (r : ℤ) (h' : List ℕ) : Type 0 where
+  pub with : (e : List ℕ) → roomy 0 e ≡ true → Started (standing L) (K .formed n false) (record { num = n; queue = [] }) h e r h' e
 
 -- a header of some words and the entries have their room, whatever they hold
 abbrev pub sized : ℕ → List ℕ → List ℕ → Bool

@@ -36,11 +36,11 @@ makes {A} {K} P fits L s g o n h e r h' v w l same opened = go (A .formed n fals
 
     go : (b : Bool) → A .formed n false ≡ b → Turns L (P .num) s o (create o (P .num n)) r h' e
     go false f =
-        let c : r ≡ einval = rw (le-leb (suc (L .len)) (length h) w, f) at (opened e room .code) in
+        let c : r ≡ einval = rw (le-leb (suc (L .len)) (length h) w, f) at (opened .with e room .code) in
         record { code = rw (c, v, fits .new n, same, f) refl; is = rw c tt }
     go true f =
-        let c : r ≡ ok = rw (le-leb (suc (L .len)) (length h) w, f) at (opened e room .code) in
-        let b = opened e room .made c in
+        let c : r ≡ ok = rw (le-leb (suc (L .len)) (length h) w, f) at (opened .with e room .code) in
+        let b = opened .with e room .made c in
         let m = is-housed L h' e (b .formed) in
         let p : L .num h' ≡ n = ap (λ (x : Object (A .Num)). x .num) (b .object) in
         let q : waiting e (getD h' (L .len) 0) ≡ [] = ap (λ (x : Object (A .Num)). x .queue) (b .object) in
