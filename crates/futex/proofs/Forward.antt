@@ -38,4 +38,4 @@ module _ (h e : List ℕ) (s : sane futex-kind layout h e ≡ true) (r : ℤ) (h
 
 -- a header of fewer than two words
 pub init-refuses : (val : ℕ) (h : List ℕ) (r : ℤ) (h' : List ℕ) → length h < 2 → Starts val h r h' → (r ≡ einval) × (h' ≡ h)
-init-refuses val h r h' k s = start-refused futex-kind layout (mk val) h r h' k s
+init-refuses val h r h' k s = start-refused futex-kind layout (mk val) h r h' s k
