@@ -9,22 +9,26 @@ use Rattle.seq.specs.Only.{Only}
 use Rattle.seq.specs.List.{back}
 use Rattle.seq.proofs.Back.{back-length}
 use Rattle.seq.proofs.Only.{said, back-alike}
+use Rattle.store.specs.Store.{Refused, Allowed, Did, Hands}
+use Rattle.store.specs.Determined.{Faithful}
+use Rattle.store.proofs.Determined.{did-only, fills-only, hands-only}
 use Rattle.wait_queue.specs.Turn.{waits}
-use Rattle.wait_queue.specs.Post.{Refused, Told}
-use Rattle.wait_queue.proofs.Determined.{told-only}
-use Rattle.kind.specs.Object.{on, Does}
-use Rattle.kind.specs.Determined.{Faithful}
-use Rattle.kind.proofs.Determined.{does-only, tells-only, lists-only, started-only, audited-only}
+use Rattle.kind.specs.Determined.{Legible}
+use Rattle.kind.proofs.Determined as kind
+use Rattle.kind.proofs.Determined.{opened-only, audited-only}
 use Rattle.mutex.specs.Post as mutex
 use Rattle.mutex.specs.Post.{releaseOut}
 use Rattle.mutex.proofs.Determined as mutex-only
 use Rattle.condvar.specs.Condvar.{condvar-kind}
-use Rattle.condvar.specs.Post.{layout, signalOut, broadcastOut, waitOut, Allowed, Waits, SignalDecided, BroadcastDecided, WaitDecided}
+use Rattle.condvar.specs.Post.{layout, place, signalOut, broadcastOut, waitOut, Waits, SignalDecided, BroadcastDecided, WaitDecided}
 use Rattle.condvar.specs.Determined.{Determined}
 
 -- the one word is the length of the queue
-faithful : Faithful layout
-faithful h h' n l = back-alike 1 h h' (λ i. l i ∷ [])
+legible : Legible layout
+legible h h' n l = back-alike 1 h h' (λ i. l i ∷ [])
+
+faithful : Faithful place
+faithful = kind.faithful layout legible
 
 -- there is a queue in which somebody waits, one in which nobody does, and one of each length
 signal-only : (waiter : Bool) → Only (λ (r : ℤ). SignalDecided waiter r)
@@ -46,9 +50,7 @@ module _ (i p st : ℕ) (h e m d : List ℕ) (w : ℕ) where
   Neither x = (x .0 ≡ h) × (x .1 ≡ e) × (x .2 ≡ m) × (x .3 ≡ w)
 
   abbrev Both : ℤ → Left → Type 0
-  Both r x =
-      Does layout (waitOut i p st) h e waits (x .0) (x .1) × Does mutex.layout (releaseOut i p st) m d r (x .2) d
-      × Told (on mutex.layout (releaseOut i p st) m d .turn .woken) w (x .3)
+  Both r x = Did place (waitOut i p st) h e waits (x .0) (x .1) × Hands mutex.place (releaseOut i p st) m d w r (x .2) (x .3)
 
   left-only : (r : ℤ) (x y : Left) → Refused r (Neither x) → Refused r (Neither y) → Allowed r (Both r x) → Allowed r (Both r y)
       → mutex.Written m (x .2) → mutex.Written m (y .2) → x ≡ y
@@ -59,9 +61,9 @@ module _ (i p st : ℕ) (h e m d : List ℕ) (w : ℕ) where
       let o : x .3 ≡ y .3 = a .3 ∙ sym (b .3) in
       λ j. (k j, l j, n j, o j)
   left-only (pos c) x y a b f g u v =
-      let k = does-only layout (waitOut i p st) h e faithful (waits, x .0, x .1) (waits, y .0, y .1) (f .0) (g .0) in
-      let n = mutex-only.reads-only (releaseOut i p st) m d (pos c, x .2) (pos c, y .2) (f .1, u) (g .1, v) in
-      let o = told-only (on mutex.layout (releaseOut i p st) m d .turn .woken) w (x .3) (y .3) (f .2) (g .2) in
+      let k = did-only faithful h e (waitOut i p st) (waits, x .0, x .1) (waits, y .0, y .1) (f .0) (g .0) in
+      let n = mutex-only.reads-only (releaseOut i p st) m d (pos c, x .2) (pos c, y .2) (f .1 .0, u) (g .1 .0, v) in
+      let o : x .3 ≡ y .3 = f .1 .1 ∙ sym (g .1 .1) in
       λ j. (k j .1, k j .2, n j .1, o j)
 
   waited-only : Only (λ ((r, h', e', m', w') : ℤ × List ℕ × List ℕ × List ℕ × ℕ). Waits i p st h e m d w r h' e' m' w')
@@ -80,9 +82,9 @@ determined =
       signal-decide = signal-only;
       broadcast-decide = broadcast-only;
       wait-decide = wait-only;
-      init = λ h. started-only condvar-kind layout tt h faithful;
-      signal = λ h e. tells-only layout signalOut h e faithful;
-      broadcast = λ h e out. lists-only layout (broadcastOut (length out)) h e faithful out;
+      init = λ h. opened-only condvar-kind layout tt h legible;
+      signal = λ h e. hands-only faithful h e signalOut;
+      broadcast = λ h e out. fills-only faithful h e (broadcastOut (length out)) out;
       wait-blocking = waited-only;
       num-waiters = λ h e. said _;
       has-waiters = λ h e. said _;

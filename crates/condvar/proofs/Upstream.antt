@@ -6,40 +6,40 @@ use mathlib.Core.List.{List, [], _∷_, map}
 use Prim.Native.Nat.{ℕ, zero, suc, _≤_, _<_}
 use native.Mathlib.Numerals.{add-one}
 use native.Mathlib.Omega.{arith}
-use lib.Dec.{ltb, leb, eqb}
 use lib.IntN.{ℤ, pos, negsuc}
 use lib.ListN.{length, getD, length-map}
-use borrow.Author.Tests.{lt-ltb, le-ltb, ltb-true, ltb-false, le-leb, lt-leb, eq-eqb, eqb-true}
-use Rattle.seq.specs.List.{any}
+use borrow.Author.Tests.{lt-ltb, le-ltb, le-leb, lt-leb, eq-eqb}
 use Rattle.seq.proofs.Order.{clash, length-insert}
 use Rattle.thread.specs.Code.{ok, eperm, enomem, ebusy, einval, edeadlk}
 use Rattle.thread.specs.Priority.{maxPriority}
 use Rattle.thread.specs.Caller.{callerCode}
 use Rattle.thread.specs.Thread.{running}
-use Rattle.wait_queue.specs.Queue.{maxWaiters, entry, prio, ident, woken, waiting, roomy, holds, joined}
+use Rattle.store.specs.Store.{accept, answer, left, reply, Did, Hands}
+use Rattle.store.proofs.Laws.{kept, looks-is}
+use Rattle.wait_queue.specs.Queue.{maxWaiters, entry, prio, ident, woken, waiting, holds, joined}
 use Rattle.wait_queue.specs.Turn.{waits}
-use Rattle.wait_queue.specs.Post.{Told}
 use Rattle.wait_queue.specs.Upstream.{AllAreWoken}
 use Rattle.wait_queue.proofs.Answers.{ident-entry}
 use Rattle.wait_queue.proofs.Well.{well-empty}
 use Rattle.kind.specs.Verdict.{upTo, wake, allow}
 use Rattle.kind.specs.Kind.{plain}
-use Rattle.kind.specs.Object.{Out, refused, anyone, on, sane}
-use Rattle.kind.specs.History.{Event, calls, asks, happens}
-use Rattle.kind.proofs.Memory.{Housed, is-on, malformed, shown, unchanged, barred}
-use Rattle.kind.proofs.Answers.{handed-no}
-use Rattle.kind.proofs.Forward.{housed-sane, woken-by, start-refused}
+use Rattle.kind.specs.Object.{Object, anyone, thread, reads, sane}
+use Rattle.kind.specs.History.{Event, calls, asks, next}
+use Rattle.kind.proofs.Memory.{Housed, housed-formed, is-on, malformed, shown}
+use Rattle.kind.proofs.Answers.{call-no, fitting-no, unseen}
+use Rattle.kind.proofs.Forward.{leaves, housed-sane, woken-by, all-woken-by, short-by, opened-code, opened-made, start-refused}
 use Rattle.kind.proofs.Histories.{always, step}
-use Rattle.mutex.specs.Mutex.{Owner, nobody, Mutex, held, formed, taken, mutex-kind}
+use Rattle.mutex.specs.Mutex.{Owner, nobody, Mutex, held, mutex-kind}
 use Rattle.mutex.specs.Mutex as owner
 use Rattle.mutex.specs.Post as mutex
-use Rattle.mutex.specs.Post.{releaseOut}
-use Rattle.mutex.proofs.Law.{mk}
-use Rattle.mutex.proofs.Answers.{release-no, release-caller, release-free, release-other, release-nested}
+use Rattle.mutex.specs.Post.{passOut, releaseOut}
+use Rattle.mutex.proofs.Answers.{release-owned, release-is, release-no, release-caller, release-free, release-other, release-nested}
 use Rattle.condvar.specs.Condvar.{Call, signal, broadcast, wait, decide, condvar-kind}
-use Rattle.condvar.specs.Post.{layout, signalOut, broadcastOut, waitOut, getOut, hasWaiters, Starts, Signals, Broadcasts, Waits, CountsWaiters, SaysHasWaiters, SignalDecided, BroadcastDecided, WaitDecided}
-use Rattle.condvar.specs.Upstream.{Inv, Init, Signal, Signalled, NobodyWoken, Broadcast, Waiting, WaitBlocking, Given, Both, Neither, NumWaiters, HasWaiters, SignalDecide, BroadcastDecide, WaitDecide, CleanState, signals, Equivalence, Idempotent}
+use Rattle.condvar.specs.Post.{layout, place, signalOut, broadcastOut, waitOut, hasWaiters, Starts, Signals, Broadcasts, Waits, Gets, CountsWaiters, SaysHasWaiters, SignalDecided, BroadcastDecided, WaitDecided}
+use Rattle.condvar.specs.Upstream.{Inv, Init, Signal, Signalled, NobodyWoken, Broadcast, Waiting, WaitBlocking, Given, Both, Neither, NumWaiters, HasWaiters, SignalDecide, BroadcastDecide, WaitDecide, CleanState, waited, signals, Equivalence, Idempotent}
+use Rattle.condvar.specs.History.{fresh}
 use Rattle.condvar.proofs.Law.{condvar-lawful}
+use Rattle.condvar.proofs.Answers.{everyone, never, Joins, barred, joins, joining}
 
 -- decide functions
 pub signal-decide : (b : Bool) (r : ℤ) → SignalDecided b r → SignalDecide b r
@@ -66,37 +66,31 @@ wait-decide true r d = record { returns = λ z. d []; pends = λ z. clash z }
 wait-decide false r d = record { returns = λ z. clash (sym z); pends = λ z. d [] }
 
 -- the invariant holds after an event, too
-inv-after : (q : List ℕ) → Inv q → (x : Event Call) → Inv (happens condvar-kind plain (record { num = tt; queue = q }) x .turn .queue)
-inv-after q v x = step condvar-kind condvar-lawful plain (record { num = tt; queue = q }) x (record { numbers = refl; queue = v }) .queue
+inv-after : (q : List ℕ) → Inv q → (x : Event Call) → Inv (next condvar-kind plain (waited q) x .queue)
+inv-after q v x = step condvar-kind condvar-lawful plain (waited q) x (record { numbers = refl; queue = v }) .queue
 
 -- init
-pub condvar-init : (h : List ℕ) (r : ℤ) (h' e : List ℕ) → 1 ≤ length h → Starts h r h' → (r ≡ ok) × Init (waiting e (getD h' 0 0))
-condvar-init h r h' e k s =
-    let c : r ≡ ok = s .code ∙ rw (le-leb 1 (length h) k) in
-    (c, rw (s .made c .1 e) (record { inv = well-empty; empty = refl }))
+module _ (h : List ℕ) (r : ℤ) (h' : List ℕ) where
+  new : 1 ≤ length h → Starts h r h' → (r ≡ ok) × (getD h' 0 0 ≡ 0)
+  new k s =
+      let c : r ≡ ok = opened-code condvar-kind layout tt h r h' s ∙ rw (le-leb 1 (length h) k) in
+      (c, opened-made condvar-kind layout tt h r h' s c .1)
 
--- a header of no word
-pub init-refuses : (h : List ℕ) (r : ℤ) (h' : List ℕ) → length h < 1 → Starts h r h' → (r ≡ einval) × (h' ≡ h)
-init-refuses h r h' k s = start-refused condvar-kind layout tt h r h' k s
+  pub condvar-init : (e : List ℕ) → 1 ≤ length h → Starts h r h' → (r ≡ ok) × Init (waiting e (getD h' 0 0))
+  condvar-init e k s = let n = new k s in (n .0, rw (n .1) (record { inv = well-empty; empty = refl }))
 
-pub init-clean-state : (h : List ℕ) (r : ℤ) (h' : List ℕ) → 1 ≤ length h → Starts h r h' → CleanState h'
-init-clean-state h r h' k s =
-    let c : r ≡ ok = s .code ∙ rw (le-leb 1 (length h) k) in
-    record { empty = s .made c .1; inv = λ xs. always condvar-kind condvar-lawful plain tt xs refl .good .queue }
+  -- a header of no word
+  pub init-refuses : length h < 1 → Starts h r h' → (r ≡ einval) × (h' ≡ h)
+  init-refuses k s = start-refused condvar-kind layout tt h r h' s k
+
+  pub init-clean-state : 1 ≤ length h → Starts h r h' → CleanState h'
+  init-clean-state k s =
+      record { empty = λ e. rw (new k s .1); inv = λ xs. always condvar-kind condvar-lawful plain tt xs refl .good .queue }
 
 -- signal
-signals-one : (q : List ℕ) → Inv q → Signal q (signalOut tt q .turn .queue)
+signals-one : (q : List ℕ) → Inv q → Signal q (left (signalOut (waited q)) (waited q) .queue)
 signals-one [] v = record { inv = inv-after [] v (calls 0 signal); fewer = λ k. absurd (omega arith); idle = λ k. refl }
 signals-one (x ∷ q) v = record { inv = inv-after (x ∷ q) v (calls 0 signal); fewer = λ k. omega arith; idle = λ k. absurd (omega arith) }
-
--- broadcast, with room for all that wait
-broadcasts-all : (room : ℕ) (q : List ℕ) → length q ≤ room
-    → broadcastOut room tt q ≡ record { num = tt; turn = record { code = pos (length q); queue = []; woken = map (woken ok) q } }
-broadcasts-all room q k = rw (length-map q (woken ok), le-leb (length q) room k, length-map q ident)
-
--- and with too little
-broadcasts-none : (room : ℕ) (q : List ℕ) → room < length q → broadcastOut room tt q ≡ refused einval tt q
-broadcasts-none room q k = rw (length-map q (woken ok), lt-leb (length q) room k)
 
 -- num_waiters, has_waiters
 has-some : (q : List ℕ) → HasWaiters q (hasWaiters q)
@@ -114,7 +108,8 @@ module _ (h e : List ℕ) (r : ℤ) (h' : List ℕ) (m : Housed layout h e) wher
         → Signalled (waiting e (getD h 0 0)) r w' (waiting e (getD h' 0 0))
     first-woken w w' b d =
         let s : sane condvar-kind layout h e ≡ true = housed-sane condvar-kind layout h e m refl in
-        let f = woken-by condvar-kind layout plain anyone signal h e s r h' e 0 refl tt ok (pos 1) (some-one (waiting e (getD h 0 0)) b) b w w' v (d .0) (d .1) in
+        let f = woken-by condvar-kind layout plain anyone signal h e s r h' e 0 refl tt ok (pos 1)
+        (some-one (waiting e (getD h 0 0)) b) b w w' v (d .0) (d .1) in
         (f .0, f .2)
       where
         some-one : (q : List ℕ) → 0 < length q → decide tt plain (map ident q) 0 signal ≡ allow tt (wake (upTo 1) (λ t. ok)) (pos 1)
@@ -123,44 +118,38 @@ module _ (h e : List ℕ) (r : ℤ) (h' : List ℕ) (m : Housed layout h e) wher
 
   pub nobody-woken : (w w' : ℕ) → waiting e (getD h 0 0) ≡ [] → Signals h e w r h' w' → NobodyWoken r w w' (waiting e (getD h' 0 0))
   nobody-woken w w' l d =
-      let y : on layout signalOut h e ≡ record { num = tt; turn = record { code = pos 0; queue = []; woken = [] } } = rw (is-on layout signalOut h e m, l) in
-      record { code = d .0 .code ∙ rw y refl; told = rw y at (d .1); others = d .0 .queue ∙ rw y refl }
+      let y : reply place signalOut h e ≡ accept fresh (pos 0) [] = is-on layout signalOut h e m ∙ rw l in
+      let f = leaves layout signalOut h e r h' e (d .0) y in
+      record { code = f .code; told = rw y at (d .1); others = f .queue }
 
-  -- with room to hand them out
-  module _ (out out' : List ℕ) (k : length (waiting e (getD h 0 0)) ≤ length out) (d : Broadcasts h e out r h' out') where
-    pub condvar-broadcast : Broadcast (waiting e (getD h 0 0)) r (waiting e (getD h' 0 0))
-    condvar-broadcast =
-        shown layout (broadcastOut (length out)) (λ c n q. Broadcast (waiting e (getD h 0 0)) c q) h e r h' e (d .0) m
-        (rw (broadcasts-all (length out) (waiting e (getD h 0 0)) k) (record { inv = well-empty; empty = refl; count = refl }))
+  module _ (out out' : List ℕ) (d : Broadcasts h e out r h' out') where
+    sound : sane condvar-kind layout h e ≡ true
+    sound = housed-sane condvar-kind layout h e m refl
 
-    pub all-woken : AllAreWoken ok (waiting e (getD h 0 0)) out out'
-    all-woken =
-        d .1 ∙ rw (
-          is-on layout (broadcastOut (length out)) h e m,
-          broadcasts-all (length out) (waiting e (getD h 0 0)) k,
-          length-map
-              (waiting e (getD h 0 0)) (woken ok),
-        ) refl
+    -- with room to hand them out
+    module _ (k : length (waiting e (getD h 0 0)) ≤ length out) where
+      pub condvar-broadcast : Broadcast (waiting e (getD h 0 0)) r (waiting e (getD h' 0 0))
+      condvar-broadcast =
+          let f = all-woken-by condvar-kind layout plain anyone broadcast h e sound r h' e 0 refl tt ok _ (everyone h e) out out' k (d .0) (d .1) .0 in
+          record { inv = rw (f .queue) well-empty; empty = ap length (f .queue); count = f .code }
 
-  read : (r ≡ einval) × (h' ≡ h) × (e ≡ e) → (r ≡ einval) × (h' ≡ h)
-  read k = (k .0, k .1)
+      pub all-woken : AllAreWoken ok (waiting e (getD h 0 0)) out out'
+      all-woken = all-woken-by condvar-kind layout plain anyone broadcast h e sound r h' e 0 refl tt ok _ (everyone h e) out out' k (d .0) (d .1) .1
 
-  -- upstream needs none; with too little the broadcast is refused, and all wait on
-  pub broadcast-short : (out out' : List ℕ) → length out < length (waiting e (getD h 0 0)) → Broadcasts h e out r h' out'
-      → (r ≡ einval) × (h' ≡ h)
-  broadcast-short out out' k d =
-      read
-      (unchanged layout (broadcastOut (length out)) h e r h' e 21 (d .0)
-      (rw (is-on layout (broadcastOut (length out)) h e m, broadcasts-none (length out) (waiting e (getD h 0 0)) k)))
+    -- upstream needs none; with too little the broadcast is refused, and all wait on
+    pub broadcast-short : length out < length (waiting e (getD h 0 0)) → (r ≡ einval) × (h' ≡ h)
+    broadcast-short k =
+        let b = short-by condvar-kind layout plain anyone broadcast h e sound r h' e 0 refl tt ok _ (everyone h e) out out' k (d .0) (d .1) .0 in
+        (b .code, b .header)
 
-  gets : (g : List ℕ → ℤ) → r ≡ on layout (getOut g) h e .turn .code → r ≡ g (waiting e (getD h 0 0))
-  gets g d = d ∙ rw (is-on layout (getOut g) h e m)
+  gets : (g : Object (Unit {0}) → ℤ) → Gets g h e r → r ≡ g (place .object h e)
+  gets g d = d ∙ looks-is place h e (reads condvar-kind g) (housed-formed layout h e m)
 
   pub num-waiters : CountsWaiters h e r → NumWaiters (waiting e (getD h 0 0)) r
-  num-waiters d = gets (λ q. pos (length q)) d
+  num-waiters d = gets (λ o. pos (length (o .queue))) d
 
   pub has-waiters : SaysHasWaiters h e r → HasWaiters (waiting e (getD h 0 0)) r
-  has-waiters d = rw (gets hasWaiters d) (has-some (waiting e (getD h 0 0)))
+  has-waiters d = rw (gets (λ o. hasWaiters (o .queue)) d) (has-some (waiting e (getD h 0 0)))
 
 -- what upstream demands is refused here: more that wait than can, or too little memory
 module _ (h e : List ℕ) (r : ℤ) (h' : List ℕ) (s : sane condvar-kind layout h e ≡ false) where
@@ -171,112 +160,35 @@ module _ (h e : List ℕ) (r : ℤ) (h' : List ℕ) (s : sane condvar-kind layou
   stay k = (k .0, k .1)
 
   pub signal-refuses : (w w' : ℕ) → Signals h e w r h' w' → Stays
-  signal-refuses w w' d = stay (barred condvar-kind layout h e signalOut r h' e (λ n q z. clash z) s (d .0))
+  signal-refuses w w' d = stay (kept place signalOut h e (d .0) (call-no condvar-kind layout plain anyone signal h e s))
 
   pub broadcast-refuses : (out out' : List ℕ) → Broadcasts h e out r h' out' → Stays
   broadcast-refuses out out' d =
-      stay (barred condvar-kind layout h e (broadcastOut (length out)) r h' e (handed-no condvar-kind plain anyone broadcast (length out)) s (d .0))
+      stay
+      (kept place (broadcastOut (length out)) h e (d .0)
+      (malformed condvar-kind layout h e (broadcastOut (length out)) (fitting-no condvar-kind plain anyone broadcast (length out)) s))
 
-  pub get-refuses : (g : List ℕ → ℤ) → r ≡ on layout (getOut g) h e .turn .code → r ≡ einval
-  get-refuses g d = d ∙ ap (λ (o : Out (Unit {0})). o .turn .code) (malformed condvar-kind layout h e (getOut g) (λ n q z. clash z) s)
+  pub get-refuses : (g : Object (Unit {0}) → ℤ) → Gets g h e r → r ≡ einval
+  get-refuses g d = d ∙ sym (unseen condvar-kind layout g h e s)
 
 -- a mutex that is given back
-never : {P : Type 0} (k a : ℕ) → negsuc k ≡ pos a → P
-never k a z = absurd (let v : _≡_ {A = ℕ} 0 1 = cc in omega arith)
-
-module _ (i p st : ℕ) (w w' a : ℕ) where
-  abbrev Releases : Owner → ℕ → List ℕ → Type 0
-  Releases o c l =
-      releaseOut i p st (mk o c) l .turn .code ≡ pos a → Told (releaseOut i p st (mk o c) l .turn .woken) w w'
-      → Given l w (releaseOut i p st (mk o c) l .turn .code) (releaseOut i p st (mk o c) l .num) (releaseOut i p st (mk o c) l .turn .queue) w'
-
-  releases : (o : Owner) (c : ℕ) (l : List ℕ) → Releases o c l
-  releases nobody c l y t = go (formed (mk nobody c) (any l)) (callerCode p st) refl refl
-    where
-      no : (k : ℕ) → releaseOut i p st (mk nobody c) l .turn .code ≡ negsuc k
-          → Given l w (releaseOut i p st (mk nobody c) l .turn .code) (releaseOut i p st (mk nobody c) l .num)
-          (releaseOut i p st (mk nobody c) l .turn .queue) w'
-      no k z = never k a (sym z ∙ y)
-
-      go : (b : Bool) (z : ℤ) → formed (mk nobody c) (any l) ≡ b → callerCode p st ≡ z
-          → Given l w (releaseOut i p st (mk nobody c) l .turn .code) (releaseOut i p st (mk nobody c) l .num)
-          (releaseOut i p st (mk nobody c) l .turn .queue) w'
-      go false z f g = no 21 (rw f)
-      go true (negsuc k) f g = no k (rw (f, g))
-      go true (pos n) f g = no 21 (rw (f, g))
-  releases (owner.thread j) c l y t = go (ltb 0 c) (callerCode p st) (eqb j i) (ltb 1 c) l refl refl refl refl y t
-    where
-      go : (b : Bool) (z : ℤ) (u v : Bool) (l : List ℕ) → ltb 0 c ≡ b → callerCode p st ≡ z → eqb j i ≡ u → ltb 1 c ≡ v → Releases (owner.thread j) c l
-      go false z u v l f g x k y t = never 21 a (rw f at y)
-      go true (negsuc n) u v l f g x k y t = never n a (rw (f, g) at y)
-      go true (pos n) false v l f g x k y t = never 0 a (rw (f, g, x) at y)
-      go true (pos n) true true l f g x k y t = never 44 a (rw (f, g, x, k) at y)
-      go true (pos n) true false [] f g x k y t = rw (f, g, x, k) (refl, refl, refl, rw (f, g, x, k) at t)
-      go true (pos n) true false (z ∷ l) f g x k y t = rw (f, g, x, k) (refl, refl, refl, rw (f, g, x, k) at t)
-
--- it was the caller's, with one lock
-module _ (i p st a : ℕ) where
-  own : (o : Owner) (c : ℕ) (l : List ℕ) → releaseOut i p st (mk o c) l .turn .code ≡ pos a → mk o c ≡ taken i
-  own nobody c l y = go (formed (mk nobody c) (any l)) (callerCode p st) refl refl
-    where
-      go : (b : Bool) (z : ℤ) → formed (mk nobody c) (any l) ≡ b → callerCode p st ≡ z → mk nobody c ≡ taken i
-      go false z f g = never 21 a (rw f at y)
-      go true (negsuc k) f g = never k a (rw (f, g) at y)
-      go true (pos n) f g = never 21 a (rw (f, g) at y)
-  own (owner.thread j) c l y = go (ltb 0 c) (callerCode p st) (eqb j i) (ltb 1 c) refl refl refl refl
-    where
-      go : (b : Bool) (z : ℤ) (u v : Bool) → ltb 0 c ≡ b → callerCode p st ≡ z → eqb j i ≡ u → ltb 1 c ≡ v → mk (owner.thread j) c ≡ taken i
-      go false z u v f g x k = never 21 a (rw f at y)
-      go true (negsuc n) u v f g x k = never n a (rw (f, g) at y)
-      go true (pos n) false v f g x k = never 0 a (rw (f, g, x) at y)
-      go true (pos n) true true f g x k = never 44 a (rw (f, g, x, k) at y)
-      go true (pos n) true false f g x k =
-          let z : j ≡ i = eqb-true j i x in
-          let w : c ≡ 1 = omega (arith, ltb-true 0 c f, ltb-false 1 c k) in
-          rw (z, w)
-
--- in memory
-moved : (l : List ℕ) (w w' : ℕ) {r s : ℤ} {n k : Mutex} {q u : List ℕ} → r ≡ s → n ≡ k → q ≡ u → Given l w s k u w' → Given l w r n q w'
-moved l w w' x y z g = rw (x, y, z) g
-
-module _ (i p st : ℕ) (m d : List ℕ) (w w' a : ℕ) where
-  abbrev Leaves : Out Mutex → Type 0
-  Leaves o = Given (waiting d (getD m 3 0)) w (o .turn .code) (o .num) (o .turn .queue) w'
-
-  owned-before : on mutex.layout (releaseOut i p st) m d .turn .code ≡ pos a → mutex.layout .num m ≡ taken i
-  owned-before y = go (leb 4 (length m)) (roomy (getD m 3 0) d) refl refl
-    where
-      go : (b c : Bool) → leb 4 (length m) ≡ b → roomy (getD m 3 0) d ≡ c → mutex.layout .num m ≡ taken i
-      go false c f g = never 21 a (rw f at y)
-      go true false f g = never 21 a (rw (f, g) at y)
-      go true true f g = own i p st a (mutex.layout .num m .owner) (getD m 2 0) (waiting d (getD m 3 0)) (rw (f, g) at y)
-
-  given-back : on mutex.layout (releaseOut i p st) m d .turn .code ≡ pos a → Told (on mutex.layout (releaseOut i p st) m d .turn .woken) w w'
-      → Leaves (on mutex.layout (releaseOut i p st) m d)
-  given-back y t = go (leb 4 (length m)) (roomy (getD m 3 0) d) refl refl
-    where
-      go : (b c : Bool) → leb 4 (length m) ≡ b → roomy (getD m 3 0) d ≡ c → Leaves (on mutex.layout (releaseOut i p st) m d)
-      go false c f g = never 21 a (rw f at y)
-      go true false f g = never 21 a (rw (f, g) at y)
-      go true true f g =
-          rw (f, g) (releases i p st w w' a (mutex.layout .num m .owner) (getD m 2 0) (waiting d (getD m 3 0)) (rw (f, g) at y) (rw (f, g) at t))
+given-back : (i p st : ℕ) (m d : List ℕ) (w a : ℕ) (r : ℤ) (m' : List ℕ) (w' : ℕ) → answer (reply mutex.place (releaseOut i p st) m d) ≡ pos a
+    → Hands mutex.place (releaseOut i p st) m d w r m' w' → Given (waiting d (getD m 3 0)) w r (mutex.layout .num m') (waiting d (getD m' 3 0)) w'
+given-back i p st m d w a r m' w' y b = go (waiting d (getD m 3 0)) (release-is m d i p st a y)
+  where
+    go : (l : List ℕ) → reply mutex.place (releaseOut i p st) m d ≡ passOut (record { num = mutex.layout .num m; queue = l })
+        → Given l w r (mutex.layout .num m') (waiting d (getD m' 3 0)) w'
+    go [] x = let f = leaves mutex.layout (releaseOut i p st) m d r m' d (b .0) x in (f .code, f .numbers, f .queue, rw x at (b .1))
+    go (z ∷ l) x = let f = leaves mutex.layout (releaseOut i p st) m d r m' d (b .0) x in (f .code, f .numbers, f .queue, rw x at (b .1))
 
 -- a wait that is not refused
-module _ (i p st : ℕ) (h e : List ℕ) where
-  join : on layout (waitOut i p st) h e .turn .code ≡ waits → on layout (waitOut i p st) h e .turn .queue ≡ joined (entry p i) (waiting e (getD h 0 0))
-  join y =
-      go (leb 1 (length h)) (roomy (getD h 0 0) e) (callerCode p st) (holds (ident (entry p i)) (waiting e (getD h 0 0)))
-      (ltb (length (waiting e (getD h 0 0))) maxWaiters) refl refl refl refl refl
-    where
-      go : (a b : Bool) (z : ℤ) (c k : Bool) → leb 1 (length h) ≡ a → roomy (getD h 0 0) e ≡ b → callerCode p st ≡ z
-          → holds (ident (entry p i)) (waiting e (getD h 0 0)) ≡ c → ltb (length (waiting e (getD h 0 0))) maxWaiters ≡ k
-          → on layout (waitOut i p st) h e .turn .queue ≡ joined (entry p i) (waiting e (getD h 0 0))
-      go false b z c k f g j u v = never 21 1 (rw f at y)
-      go true false z c k f g j u v = never 21 1 (rw (f, g) at y)
-      go true true (negsuc n) c k f g j u v = never n 1 (rw (f, g, j) at y)
-      go true true (pos n) true k f g j u v = never 15 1 (rw (f, g, j, u) at y)
-      go true true (pos n) false false f g j u v = never 11 1 (rw (f, g, j, u, v) at y)
-      go true true (pos n) false true f g j u v = rw (f, g, j, u, v)
+join : (i p st : ℕ) (h e h' e' : List ℕ) → Did place (waitOut i p st) h e waits h' e'
+    → waiting e' (getD h' 0 0) ≡ joined (entry p i) (waiting e (getD h 0 0))
+join i p st h e h' e' b = go (joining i p st h e)
+  where
+    go : Joins i p st h e → waiting e' (getD h' 0 0) ≡ joined (entry p i) (waiting e (getD h 0 0))
+    go (barred k x) = never (sym (kept place (waitOut i p st) h e b x .0))
+    go (joins x) = leaves layout (waitOut i p st) h e waits h' e' b x .queue
 
 -- who gives it back waits, and nothing else
 given-waits : (l : List ℕ) (w : ℕ) (r : ℤ) (n : Mutex) (q : List ℕ) (w' : ℕ) → Given l w r n q w' → Waiting r
@@ -284,13 +196,13 @@ given-waits [] w r n q w' g = inl (g .0)
 given-waits (x ∷ l) w r n q w' g = inr (g .0)
 
 refusal-stays : (k : ℕ) → Waiting (negsuc k) → ⊥
-refusal-stays k (inl z) = never k 1 z
-refusal-stays k (inr z) = never k 2 z
+refusal-stays k (inl z) = never z
+refusal-stays k (inr z) = never z
 
 -- wait_blocking: the thread i of priority p in the state st, with the mutex (m, d)
 module _ (i p st : ℕ) (h e m d : List ℕ) (w : ℕ) (r : ℤ) (h' e' m' : List ℕ) (w' : ℕ) (t : Waits i p st h e m d w r h' e' m' w') where
   abbrev release : ℤ
-  release = on mutex.layout (releaseOut i p st) m d .turn .code
+  release = answer (reply mutex.place (releaseOut i p st) m d)
 
   abbrev Done : Type 0
   Done =
@@ -300,12 +212,11 @@ module _ (i p st : ℕ) (h e m d : List ℕ) (w : ℕ) (r : ℤ) (h' e' m' : Lis
   done : (a : ℕ) → r ≡ pos a → Done
   done a z =
       let b = rw z at (t .both) in
+      let y : release ≡ pos a = sym (b .1 .0 .code) in
       record {
-        owned = owned-before i p st m d w w' a (sym (b .1 .code));
-        queue = b .0 .queue ∙ join i p st h e (sym (b .0 .code));
-        given =
-            moved (waiting d (getD m 3 0)) w w' (z ∙ b .1 .code) (b .1 .num) (b .1 .queue)
-            (given-back i p st m d w w' a (sym (b .1 .code)) (b .2));
+        owned = release-owned m d i p st a y;
+        queue = join i p st h e h' e' (b .0);
+        given = rw z (given-back i p st m d w a (pos a) m' w' y (b .1));
       }
 
   undone : (k : ℕ) → r ≡ negsuc k → Neither h e m w r h' e' m' w'
@@ -352,7 +263,7 @@ module _ (i p st : ℕ) (h e m d : List ℕ) (w : ℕ) (r : ℤ) (h' e' m' : Lis
   pub wait-joins : (a : ℕ) → release ≡ pos a → i < 4294967296 → p < maxPriority → st ≡ running → Housed layout h e
       → length (waiting e (getD h 0 0)) < maxWaiters → holds i (waiting e (getD h 0 0)) ≡ false → (r ≡ pos a) × Done
   wait-joins a g small valid runs c room absent =
-      let y : on layout (waitOut i p st) h e .turn .code ≡ waits =
+      let y : answer (reply place (waitOut i p st) h e) ≡ waits =
       rw (
         is-on layout (waitOut i p st) h e c,
         runs,
@@ -411,11 +322,11 @@ module _ (i p st : ℕ) (h e m d : List ℕ) (w : ℕ) (r : ℤ) (h' e' m' : Lis
 
   -- then the wait's, where the mutex would let go
   module _ (a : ℕ) (g : release ≡ pos a) where
-    queue-refuses : (k : ℕ) → on layout (waitOut i p st) h e .turn .code ≡ negsuc k → Unmoved (negsuc k)
+    queue-refuses : (k : ℕ) → answer (reply place (waitOut i p st) h e) ≡ negsuc k → Unmoved (negsuc k)
     queue-refuses k z = unmoved k (t .code ∙ rw (g, z))
 
     pub wait-refuses : sane condvar-kind layout h e ≡ false → Unmoved einval
-    wait-refuses s = queue-refuses 21 (ap (λ (o : Out (Unit {0})). o .turn .code) (malformed condvar-kind layout h e (waitOut i p st) (λ n q z. clash z) s))
+    wait-refuses s = queue-refuses 21 (ap answer (call-no condvar-kind layout plain (thread i p st) wait h e s))
 
     module _ (small : i < 4294967296) (valid : p < maxPriority) (runs : st ≡ running) (c : Housed layout h e) where
       pub wait-twice-refuses : holds i (waiting e (getD h 0 0)) ≡ true → Unmoved ebusy
@@ -435,19 +346,20 @@ module _ (i p st : ℕ) (h e m d : List ℕ) (w : ℕ) (r : ℤ) (h' e' m' : Lis
           ))
 
 -- upstream's lemmas, which end in `ensures true`
-all-signals : (q : List ℕ) → signals (length q) q ≡ record { answers = map (λ x. pos 1) q; woken = map (woken ok) q; queue = [] }
+all-signals : (q : List ℕ) → signals (length q) (waited q) ≡ record { answers = map (λ x. pos 1) q; woken = map (woken ok) q; queue = [] }
 all-signals [] = refl
 all-signals (x ∷ q) = rw (all-signals q)
 
+-- with room for all that wait
+broadcasts-all : (room : ℕ) (q : List ℕ) → length q ≤ room → broadcastOut room (waited q) ≡ accept fresh (pos (length q)) (map (woken ok) q)
+broadcasts-all room q k = rw (length-map q (woken ok), le-leb (length q) room k, length-map q ident)
+
 pub signal-broadcast-equivalence : (q : List ℕ) (room : ℕ) → length q ≤ room → Equivalence q room
 signal-broadcast-equivalence q room k =
-    let b = broadcasts-all room q k in
     record {
-      woken = rw (all-signals q, b);
+      broadcast = rw (all-signals q) (broadcasts-all room q k);
       signals-empty = rw (all-signals q);
-      broadcast-empty = rw b;
       signals-tell = rw (all-signals q);
-      broadcast-tells = rw b;
     }
 
 pub broadcast-idempotent : (q : List ℕ) (room again : ℕ) → Idempotent q room again

@@ -9,7 +9,7 @@ use lib.Dec.{ltb, eqb}
 use lib.IntN.{ℤ, pos, negsuc}
 use lib.Signed.{mag}
 use lib.ListN.{length, getD, set, drop}
-use borrow.Author.Tests.{le-leb, lt-leb, lt-ltb, le-ltb, ltb-true, ltb-false, eq-eqb, ne-eqb}
+use borrow.Author.Tests.{le-leb, lt-leb, lt-ltb, le-ltb, ltb-true, ltb-false, eq-eqb, ne-eqb, eqb-true}
 use Rattle.seq.specs.List.{any}
 use Rattle.seq.proofs.Words.{spell}
 use Rattle.seq.proofs.Order.{clash}
@@ -273,12 +273,12 @@ module _ (h e : List ℕ) where
               go zero x b = absurd (omega arith)
               go (suc n) x b = rw (last (allow (taken (ident (getD e n 0))) (wake (upTo 1) (λ t. ok)) transferred) (rw x)) refl
 
-      -- what release allows is the last unlock
+      -- what release allows is the last unlock of one that has one lock
       passes-too : (c k : ℕ) → callerCode p st ≡ pos c → answer (reply place (releaseOut i p st) h e) ≡ pos k
-          → reply place passOut h e ≡ reply place (releaseOut i p st) h e
+          → (layout .num h ≡ taken i) × (reply place (releaseOut i p st) h e ≡ passOut (place .object h e))
       passes-too c k z y = go (ltb 0 (getD h 0 0)) (eqb (getD h 1 0) i) (ltb 1 (getD h 2 0)) refl refl refl
         where
-          never : (r : ℕ) → reply place (releaseOut i p st) h e ≡ refuse (negsuc r) → reply place passOut h e ≡ reply place (releaseOut i p st) h e
+          never : {P : Type 0} (r : ℕ) → reply place (releaseOut i p st) h e ≡ refuse (negsuc r) → P
           never r x = let u : negsuc r ≡ pos k = rw x at y in absurd (let v : _≡_ {A = ℕ} 0 1 = cc in omega arith)
 
           deed : (d : Verdict Mutex (Unit {0})) → verdict mutex-kind layout plain (object.thread i p st) release h e ≡ d
@@ -286,13 +286,15 @@ module _ (h e : List ℕ) where
           deed d x = call-is mutex-kind layout plain (object.thread i p st) release h e s c z d x
 
           go : (a b l : Bool) → ltb 0 (getD h 0 0) ≡ a → eqb (getD h 1 0) i ≡ b → ltb 1 (getD h 2 0) ≡ l
-              → reply place passOut h e ≡ reply place (releaseOut i p st) h e
+              → (layout .num h ≡ taken i) × (reply place (releaseOut i p st) h e ≡ passOut (place .object h e))
           go false b l f o m = never 21 (deed (deny einval) (rw f))
           go true false l f o m = never 0 (deed (deny eperm) (rw (f, o)))
           go true true true f o m = never 44 (deed (deny edeadlk) (rw (f, o, m)))
           go true true false f o m =
-              is-on layout passOut h e (is-sane mutex-kind layout h e s .housed)
-              ∙ sym (deed (passes (map ident (waiting e (getD h 3 0)))) (rw (f, o, m)) ∙ by-any (object.thread i p st) (layout .num h) (waiting e (getD h 3 0)))
+              let u : getD h 2 0 ≡ 1 = omega (arith, flag-held f, ltb-false 1 (getD h 2 0) m) in (
+                rw (f, eqb-true (getD h 1 0) i o, u),
+                deed (passes (map ident (waiting e (getD h 3 0)))) (rw (f, o, m)) ∙ by-any (object.thread i p st) (layout .num h) (waiting e (getD h 3 0)),
+              )
 
     -- the numbers
     pub got : (g : Object Mutex → ℤ) → Gets g h e (g (place .object h e))
@@ -424,26 +426,33 @@ module _ (h e : List ℕ) (w : ℕ) where
               let x : ident (woken ok (getD e m 0)) ≡ ident (getD e m 0) = omega arith in
               rw (y, x) (refl, refl)
 
--- a release that is allowed is of a mutex as it should be, by a thread that may wait
-release-allowed : (h e : List ℕ) (i p st k : ℕ) → answer (reply place (releaseOut i p st) h e) ≡ pos k
-    → (sane mutex-kind layout h e ≡ true) × (callerCode p st ≡ pos (mag (callerCode p st)))
-release-allowed h e i p st k y = go (sane mutex-kind layout h e) (callerCode p st) refl refl
-  where
-    never : {P : Type 0} (r : ℕ) → negsuc r ≡ answer (reply place (releaseOut i p st) h e) → P
-    never r x = let u : negsuc r ≡ pos k = x ∙ y in absurd (let v : _≡_ {A = ℕ} 0 1 = cc in omega arith)
+-- a release that is allowed
+module _ (h e : List ℕ) (i p st k : ℕ) (y : answer (reply place (releaseOut i p st) h e) ≡ pos k) where
+  allowed : (sane mutex-kind layout h e ≡ true) × (callerCode p st ≡ pos (mag (callerCode p st)))
+  allowed = go (sane mutex-kind layout h e) (callerCode p st) refl refl
+    where
+      never : {P : Type 0} (r : ℕ) → negsuc r ≡ answer (reply place (releaseOut i p st) h e) → P
+      never r x = let u : negsuc r ≡ pos k = x ∙ y in absurd (let v : _≡_ {A = ℕ} 0 1 = cc in omega arith)
 
-    go : (b : Bool) (z : ℤ) → sane mutex-kind layout h e ≡ b → callerCode p st ≡ z → (b ≡ true) × (z ≡ pos (mag z))
-    go false z s c = never 21 (release-no h e i p st s)
-    go true (negsuc r) s c = never r (release-caller h e s i p st r c)
-    go true (pos n) s c = (refl, refl)
+      go : (b : Bool) (z : ℤ) → sane mutex-kind layout h e ≡ b → callerCode p st ≡ z → (b ≡ true) × (z ≡ pos (mag z))
+      go false z s c = never 21 (release-no h e i p st s)
+      go true (negsuc r) s c = never r (release-caller h e s i p st r c)
+      go true (pos n) s c = (refl, refl)
 
--- it is the last unlock
-pub release-passes : (h e : List ℕ) (i p st k : ℕ) → answer (reply place (releaseOut i p st) h e) ≡ pos k
-    → reply place passOut h e ≡ reply place (releaseOut i p st) h e
-release-passes h e i p st k y = let a = release-allowed h e i p st k y in passes-too h e (a .0) i p st (mag (callerCode p st)) k (a .1) y
+  -- is by a thread that may wait
+  pub release-asks : callerCode p st ≡ pos (mag (callerCode p st))
+  release-asks = allowed .1
 
-pub release-asks : (h e : List ℕ) (i p st k : ℕ) → answer (reply place (releaseOut i p st) h e) ≡ pos k → callerCode p st ≡ pos (mag (callerCode p st))
-release-asks h e i p st k y = release-allowed h e i p st k y .1
+  -- that owns it with one lock
+  pub release-owned : layout .num h ≡ taken i
+  release-owned = passes-too h e (allowed .0) i p st (mag (callerCode p st)) k release-asks y .0
+
+  -- and is the last unlock
+  pub release-is : reply place (releaseOut i p st) h e ≡ passOut (place .object h e)
+  release-is = passes-too h e (allowed .0) i p st (mag (callerCode p st)) k release-asks y .1
+
+  pub release-passes : reply place passOut h e ≡ reply place (releaseOut i p st) h e
+  release-passes = is-on layout passOut h e (is-sane mutex-kind layout h e (allowed .0) .housed) ∙ sym release-is
 
 -- init
 module _ (h : List ℕ) where

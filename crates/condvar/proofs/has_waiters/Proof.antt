@@ -12,7 +12,7 @@ formed-requires : tie.Need-formed-requires
 formed-requires c κs = search needs
 
 returns : tie.Need-returns
-returns c = let a = c .before .before .before .before .args in got-no (a .h .now) (a .e .now) hasWaiters (sym (c .before .formed .ensures) ∙ not-true _ (c .if1 .taken))
+returns c = let a = c .before .before .before .before .args in got-no (a .h .now) (a .e .now) (λ o. hasWaiters (o .queue)) (sym (c .before .formed .ensures) ∙ not-true _ (c .if1 .taken))
 
 shared-slice-read-if2 : tie.Need-shared-slice-read-if2
 shared-slice-read-if2 c = let a = c .before .before .before .before .before .args in omega (arith, words (a .h .now) (a .e .now) (sym (c .before .before .formed .ensures) ∙ not-false _ (c .before .if1 .left)))
