@@ -2,20 +2,21 @@
 use mathlib.Core.Path.{_≡_, refl, sym, ap, _∙_}
 use mathlib.Core.Bool.{Bool, true, false}
 use mathlib.Core.List.{List, [], _∷_, map}
-use Prim.Native.Nat.{ℕ, zero, suc, _+_, _-_, _≤_, _<_}
+use Prim.Native.Nat.{ℕ, _+_, _-_, _≤_, _<_}
 use native.Mathlib.Numerals.{add-one}
 use native.Mathlib.Omega.{arith}
 use lib.Dec.{leb, eqb}
-use lib.IntN.{ℤ, pos, negsuc}
+use lib.IntN.{ℤ, pos}
 use lib.Signed.{mag}
 use lib.ListN.{length, getD, length-map}
-use borrow.Author.Tests.{lt-ltb, le-leb, lt-leb, leb-true, leb-false, eq-eqb, ne-eqb, eqb-true, eqb-false}
+use borrow.Author.Tests.{lt-ltb, le-ltb, le-leb, lt-leb, leb-true, leb-false, eq-eqb, ne-eqb, eqb-true, eqb-false}
+use Rattle.seq.specs.List.{back}
 use Rattle.seq.proofs.Back.{back-length}
 use Rattle.seq.proofs.Order.{clash, length-insert}
 use Rattle.thread.specs.Code.{ok, eagain, einval}
 use Rattle.thread.specs.Priority.{maxPriority}
 use Rattle.thread.specs.Thread.{running}
-use Rattle.store.specs.Store.{refuse, accept, answer, left, out, reply}
+use Rattle.store.specs.Store.{Reply, refuse, accept, answer, left, out, reply}
 use Rattle.store.proofs.Laws.{kept}
 use Rattle.wait_queue.specs.Queue.{maxWaiters, entry, prio, ident, woken, waiting, roomy, holds, joined, Well}
 use Rattle.wait_queue.specs.Turn.{waits}
@@ -35,73 +36,44 @@ use Rattle.futex.specs.Post.{layout, place, waitOut, wakeCall, wakeOut, 
 use Rattle.futex.specs.History.{after}
 use Rattle.futex.specs.Upstream.{Inv, Init, Wait, Wake, WakeFew, FirstWoken, ValSet, ValGet, NumWaiters, WaitDecide, WakeDecide, Gating, WakeSemantics, Roundtrip, Bounded}
 use Rattle.futex.proofs.Law.{mk, obj, futex-lawful}
-use Rattle.futex.proofs.Answers.{got-no, got}
+use Rattle.futex.proofs.Answers.{decide-over, decide-all, decide-none, decide-one, got-no, got}
 
 -- decide functions
 pub wait-decide : (v x : ℕ) (r : ℤ) → WaitDecided v x r → WaitDecide v x r
 wait-decide v x r d = record { blocks = λ z. d [] ∙ rw (eq-eqb v x z); mismatch = λ z. d [] ∙ rw (ne-eqb v x z) }
 
--- a queue of n
-abbrev row : ℕ → List ℕ
-row zero = []
-row (suc n) = 0 ∷ row n
-
-length-row : (n : ℕ) → length (row n) ≡ n
-length-row zero = refl
-length-row (suc n) = ap suc (length-row n)
-
 module _ (n : ℕ) (b : Bool) (m : ℕ) (r : ℤ) (m' : ℕ) (d : WakeDecided n b m r m') where
+  -- there is a queue of each length
+  is : {c : ℤ} {k : ℕ} → WakeDecided n b m c k → (r ≡ c) × (m' ≡ k)
+  is e =
+      let x = d (mk 0) (back [] n) (back-length [] n) in
+      let y = e (mk 0) (back [] n) (back-length [] n) in
+      (x .code ∙ sym (y .code), x .number ∙ sym (y .number))
+
   pub wake-decide-refuses : maxWaiters < n → (r ≡ einval) × (m' ≡ m)
-  wake-decide-refuses k =
-      let z = d (mk 0) (row n) (length-row n) in
-      let y = lt-leb n maxWaiters k in
-      (z .code ∙ rw y, z .number ∙ rw y)
+  wake-decide-refuses k = is (decide-over n m b (lt-ltb maxWaiters n k))
 
 pub wake-decide : (n : ℕ) (b : Bool) (m : ℕ) (r : ℤ) (m' : ℕ) → n ≤ maxWaiters → WakeDecided n b m r m' → WakeDecide n b r m'
-wake-decide zero true m r m' k d =
-    let z = d (mk 0) [] refl in
-    let y = le-leb 0 maxWaiters k in
+wake-decide n true m r m' k d =
+    let a = is n true m r m' d (decide-all n m (le-ltb maxWaiters n k)) in
     record {
-      none-woken = λ e. z .code ∙ rw y;
-      none-remaining = λ e. z .number ∙ rw y;
-      all-woken = λ e l. absurd (omega arith);
-      all-remaining = λ e l. absurd (omega arith);
+      none-woken = λ e. a .0 ∙ ap pos e;
+      none-remaining = λ e. a .1;
+      all-woken = λ e l. a .0;
+      all-remaining = λ e l. a .1;
       one-woken = λ e. clash e;
       one-remaining = λ e. clash e;
     }
-wake-decide zero false m r m' k d =
-    let z = d (mk 0) [] refl in
-    let y = le-leb 0 maxWaiters k in
+wake-decide n false m r m' k d =
+    let none : n ≡ 0 → (r ≡ pos 0) × (m' ≡ 0) = λ e. is n false m r m' d (decide-none n m (le-ltb maxWaiters n k) e) in
+    let one : 0 < n → (r ≡ pos 1) × (m' ≡ n - 1) = λ l. is n false m r m' d (decide-one n m (le-ltb maxWaiters n k) l) in
     record {
-      none-woken = λ e. z .code ∙ rw y;
-      none-remaining = λ e. z .number ∙ rw y;
+      none-woken = λ e. none e .0;
+      none-remaining = λ e. none e .1;
       all-woken = λ e. clash (sym e);
       all-remaining = λ e. clash (sym e);
-      one-woken = λ e l. absurd (omega arith);
-      one-remaining = λ e l. absurd (omega arith);
-    }
-wake-decide (suc n) true m r m' k d =
-    let z = d (mk 0) (row (suc n)) (length-row (suc n)) in
-    let y = le-leb (suc n) maxWaiters k in
-    record {
-      none-woken = λ e. absurd (omega arith);
-      none-remaining = λ e. absurd (omega arith);
-      all-woken = λ e l. z .code ∙ rw (y, length-map (row n) ident, length-row n);
-      all-remaining = λ e l. z .number ∙ rw y;
-      one-woken = λ e. clash e;
-      one-remaining = λ e. clash e;
-    }
-wake-decide (suc n) false m r m' k d =
-    let z = d (mk 0) (row (suc n)) (length-row (suc n)) in
-    let y = le-leb (suc n) maxWaiters k in
-    let x : n ≡ suc n - 1 = omega arith in
-    record {
-      none-woken = λ e. absurd (omega arith);
-      none-remaining = λ e. absurd (omega arith);
-      all-woken = λ e. clash (sym e);
-      all-remaining = λ e. clash (sym e);
-      one-woken = λ e l. z .code ∙ rw y;
-      one-remaining = λ e l. z .number ∙ rw (y, length-row n) x;
+      one-woken = λ e l. one l .0;
+      one-remaining = λ e l. one l .1;
     }
 
 -- the invariant holds after an event, too
@@ -333,31 +305,38 @@ module _ (h e : List ℕ) (r : ℤ) (h' : List ℕ) (s : sane futex-kind layout 
   pub get-refuses : (g : Object Futex → ℕ) → Gets g h e r → r ≡ einval
   get-refuses g d = d ∙ sym (got-no h e g s)
 
+refused-wakes : {P : Type 0} (n : ℕ) → einval ≡ pos n → P
+refused-wakes n z = absurd (let y : _≡_ {A = ℕ} 0 1 = cc in omega arith)
+
+-- what any wake answers and leaves of s: nobody is lost, a wake of one hands out at most one, and the answer is how many are handed out
+record Woke (b : Bool) (s : Object Futex) (y : Reply (Object Futex)) : Type 0 where
+  lost : length (out y) + length (left y s .queue) ≡ length (s .queue)
+  lone : b ≡ false → length (out y) ≤ 1
+  told : (n : ℕ) → answer y ≡ pos n → n ≡ length (out y)
+
+not-woke : (b : Bool) (s : Object Futex) → Woke b s (refuse einval)
+not-woke b s = record { lost = omega arith; lone = λ e. omega arith; told = λ n z. refused-wakes n z }
+
+woke : (b : Bool) (room v : ℕ) (q : List ℕ) → Woke b (obj v q) (wakeOut b room (obj v q))
+woke true room v q = go (leb (length q) room) refl
+  where
+    go : (c : Bool) → leb (length q) room ≡ c → Woke true (obj v q) (wakeOut true room (obj v q))
+    go true z =
+        let l = length-map q (woken ok) in
+        rw (wakes-all room v q (leb-true (length q) room z)) (record { lost = omega (arith, l); lone = λ e. clash e; told = λ n e. sym (ap mag e) ∙ sym l })
+    go false z = rw (wakes-none room v q (leb-false (length q) room z)) (not-woke true (obj v q))
+woke false room v [] = rw (wakes-nobody room v) (record { lost = refl; lone = λ e. omega arith; told = λ n e. sym (ap mag e) })
+woke false room v (x ∷ q) = go (leb 1 room) refl
+  where
+    go : (c : Bool) → leb 1 room ≡ c → Woke false (obj v (x ∷ q)) (wakeOut false room (obj v (x ∷ q)))
+    go true z = rw z (record { lost = omega arith; lone = λ e. omega arith; told = λ n e. sym (ap mag e) })
+    go false z = rw z (not-woke false (obj v (x ∷ q)))
+
 -- upstream's lemmas
 pub wake-semantics : (v : ℕ) (q : List ℕ) (room : ℕ) → WakeSemantics (obj v q) room
 wake-semantics v q room =
-    record {
-      one = few q (leb 1 room) refl;
-      one-lost = kept q (leb 1 room) refl;
-      all = λ k. rw (wakes-all room v q k);
-      all-lost = every (leb (length q) room) refl;
-    }
-  where
-    few : (l : List ℕ) (b : Bool) → leb 1 room ≡ b → length (out (wakeOut false room (obj v l))) ≤ 1
-    few [] b z = rw (wakes-nobody room v) (omega arith)
-    few (x ∷ l) true z = rw z (omega arith)
-    few (x ∷ l) false z = rw z (omega arith)
-
-    kept : (l : List ℕ) (b : Bool) → leb 1 room ≡ b
-        → length (out (wakeOut false room (obj v l))) + length (left (wakeOut false room (obj v l)) (obj v l) .queue) ≡ length l
-    kept [] b z = rw (wakes-nobody room v)
-    kept (x ∷ l) true z = rw z (omega arith)
-    kept (x ∷ l) false z = rw z (omega arith)
-
-    every : (b : Bool) → leb (length q) room ≡ b
-        → length (out (wakeOut true room (obj v q))) + length (left (wakeOut true room (obj v q)) (obj v q) .queue) ≡ length q
-    every true z = rw (wakes-all room v q (leb-true (length q) room z), length-map q (woken ok)) (omega arith)
-    every false z = rw (wakes-none room v q (leb-false (length q) room z)) (omega arith)
+    let o = woke false room v q in
+    record { one = o .lone refl; one-lost = o .lost; all = λ k. rw (wakes-all room v q k); all-lost = woke true room v q .lost }
 
 some-place : 0 < maxWaiters
 unfolding maxWaiters
@@ -374,33 +353,6 @@ wait-wake-roundtrip v i p small valid =
       back = ap (λ (s : Object Futex). next futex-kind plain s (calls i wakeOne)) q;
     }
 
--- an answer of wake is at most the number of those that wait
-module _ (room v n : ℕ) where
-  refused-wakes : {P : Type 0} (k : ℕ) → negsuc k ≡ pos n → P
-  refused-wakes k z = absurd (let y : _≡_ {A = ℕ} 0 1 = cc in omega arith)
-
-  at-most : (b : Bool) (q : List ℕ) → answer (wakeOut b room (obj v q)) ≡ pos n → n ≤ length q
-  at-most true q z = go (leb (length q) room) refl
-    where
-      go : (c : Bool) → leb (length q) room ≡ c → n ≤ length q
-      go true y = let x : length q ≡ n = ap mag (rw (wakes-all room v q (leb-true (length q) room y)) at z) in omega arith
-      go false y = refused-wakes 21 (rw (wakes-none room v q (leb-false (length q) room y)) at z)
-  at-most false [] z = let x : 0 ≡ n = ap mag (rw (wakes-nobody room v) at z) in omega arith
-  at-most false (t ∷ q) z = go (leb 1 room) refl
-    where
-      go : (c : Bool) → leb 1 room ≡ c → n ≤ length (t ∷ q)
-      go true y = let x : 1 ≡ n = ap mag (rw y at z) in omega arith
-      go false y = refused-wakes 21 (rw y at z)
-
-  -- one at most
-  one-at-most : (q : List ℕ) → answer (wakeOut false room (obj v q)) ≡ pos n → n ≤ 1
-  one-at-most [] z = let x : 0 ≡ n = ap mag (rw (wakes-nobody room v) at z) in omega arith
-  one-at-most (t ∷ q) z = go (leb 1 room) refl
-    where
-      go : (c : Bool) → leb 1 room ≡ c → n ≤ 1
-      go true y = let x : 1 ≡ n = ap mag (rw y at z) in omega arith
-      go false y = refused-wakes 21 (rw y at z)
-
 few-enough : maxWaiters ≤ 4294967295
 unfolding maxWaiters
 few-enough = omega arith
@@ -415,16 +367,23 @@ module _ (b : Bool) (room : ℕ) (h e : List ℕ) where
   housed n z = go (leb 2 (length h)) (roomy (getD h 1 0) e) refl refl
     where
       go : (c f : Bool) → leb 2 (length h) ≡ c → roomy (getD h 1 0) e ≡ f → Housed layout h e
-      go false f x y = refused-wakes room 0 n 21 (rw x at z)
-      go true false x y = refused-wakes room 0 n 21 (rw (x, y) at z)
+      go false f x y = refused-wakes n (rw x at z)
+      go true false x y = refused-wakes n (rw (x, y) at z)
       go true true x y = record { words = leb-true 2 (length h) x; room = y }
 
-  told : (n : ℕ) (z : Answers n) → answer (wakeOut b room (place .object h e)) ≡ pos n
-  told n z = rw (is-on layout (wakeOut b room) h e (housed n z)) at z
+  -- at most as many as wait; of one, at most one
+  module _ (n : ℕ) (z : Answers n) where
+    handed : n ≡ length (out (wakeOut b room (place .object h e)))
+    handed = woke b room (getD h 0 0) (waiting e (getD h 1 0)) .told n (rw (is-on layout (wakeOut b room) h e (housed n z)) at z)
 
-  within : (n : ℕ) → Answers n → n ≤ maxWaiters
-  within n z =
-      omega (arith, at-most room (getD h 0 0) n b (waiting e (getD h 1 0)) (told n z), back-length e (getD h 1 0), is-roomy (getD h 1 0) e (housed n z .room) .few)
+    at-most : n ≤ length (waiting e (getD h 1 0))
+    at-most = omega (arith, handed, woke b room (getD h 0 0) (waiting e (getD h 1 0)) .lost)
+
+    one-at-most : b ≡ false → n ≤ 1
+    one-at-most y = omega (arith, handed, woke b room (getD h 0 0) (waiting e (getD h 1 0)) .lone y)
+
+    within : n ≤ maxWaiters
+    within = omega (arith, at-most, back-length e (getD h 1 0), is-roomy (getD h 1 0) e (housed n z .room) .few)
 
   pub woken-bounded : Bounded b room h e
   woken-bounded = record { limit = few-enough; woken = within }
@@ -432,10 +391,7 @@ module _ (b : Bool) (room : ℕ) (h e : List ℕ) where
 pub wake-few : (b : Bool) (h e out : List ℕ) (r : ℤ) (h' out' : List ℕ) → Wakes b h e out r h' out' → WakeFew b (waiting e (getD h 1 0)) r
 wake-few b h e out r h' out' d =
     record {
-      few = λ n z. at-most (length out) (getD h 0 0) n b (waiting e (getD h 1 0)) (told b (length out) h e n (sym (d .0 .code) ∙ z));
-      one-few = λ y n z. lone y n (told b (length out) h e n (sym (d .0 .code) ∙ z));
+      few = λ n z. at-most b (length out) h e n (sym (d .0 .code) ∙ z);
+      one-few = λ y n z. one-at-most b (length out) h e n (sym (d .0 .code) ∙ z) y;
       bounded = λ n z. within b (length out) h e n (sym (d .0 .code) ∙ z);
     }
-  where
-    lone : b ≡ false → (n : ℕ) → answer (wakeOut b (length out) (place .object h e)) ≡ pos n → n ≤ 1
-    lone y n z = one-at-most (length out) (getD h 0 0) n (waiting e (getD h 1 0)) (rw y at z)
