@@ -1,18 +1,17 @@
 -- What one event does to a stack with those that wait, beside what its calls do to one without. Assumes nothing.
 use mathlib.Core.Path.{_≡_, refl, ap}
-use mathlib.Core.Bool.{Bool, true, false, cond}
+use mathlib.Core.Bool.{Bool, true, false}
 use mathlib.Core.List.{List, [], _∷_}
 use Prim.Native.Nat.{ℕ, suc, _≤_, _<_}
 use native.Mathlib.Omega.{arith}
 use lib.Dec.{ltb}
 use lib.ListN.{length}
 use borrow.Author.Tests.{ltb-true, ltb-false, lt-ltb, le-leb}
-use Rattle.seq.specs.List.{any}
-use Rattle.thread.specs.Code.{ok, ebusy}
-use Rattle.store.specs.Store.{answer, settled}
-use Rattle.stack.specs.Stack.{Stack, wakesWaiter, waits, right, pushes, pops, push}
-use Rattle.stack.specs.History.{depth}
-use Rattle.stack.specs.HandOver.{Waited, Event, put, get, step, out, after, calls, handedOut, Decides}
+use Rattle.store.specs.Store.{answer, out, settled}
+use Rattle.store.specs.History.{after}
+use Rattle.stack.specs.Stack.{Stack, right, pushes, pops}
+use Rattle.stack.specs.History.{does, next, depth}
+use Rattle.stack.specs.HandOver.{Waited, Event, put, get, happens, step, calls, wordsOut, decided, Decides}
 use Rattle.stack.proofs.Calls.{mk, push-some, push-none, pop-some}
 
 -- the one with those that wait, w, and the other, t, which holds the same
@@ -29,7 +28,7 @@ module _ (c n : ℕ) (p q : List ℕ) (a : 0 < c) where
   on l = record { stack = mk c l p; waiting = n }
 
   abbrev Goes : List ℕ → Event → Type 0
-  Goes l e = Same (step (on l) e) (after (mk c l q) (calls (on l) e)) × (out (on l) e ≡ handedOut (mk c l q) (calls (on l) e))
+  Goes l e = Same (step (on l) e) (after next (mk c l q) (calls (on l) e)) × (out (happens e (on l)) ≡ wordsOut does (mk c l q) (calls (on l) e))
 
   hands-over : (x : ℕ) → ltb 0 n ≡ true → Goes [] (put x)
   hands-over x e = rw (e, push-some c [] q x a) (record { idle = λ z. refl; held = refl; capacity = refl; some-room = a; within = omega arith }, refl)
@@ -66,31 +65,25 @@ module _ (c n : ℕ) (p q : List ℕ) (a : 0 < c) where
         go true e = rw (e, lt-ltb 0 c a, i (ltb-true 0 n e))
         go false e = rw (e, lt-ltb 0 c a) (le-leb (length l) c b)
 
-    puts : (x : ℕ)
-        → (answer (pushes (length l) c (ltb 0 n)) ≡ cond (ltb 0 n) wakesWaiter (answer (push x (mk c l p))))
-        × (settled (λ m. m) (pushes (length l) c (ltb 0 n)) (length l) ≡ depth (step (on l) (put x) .stack))
-    puts x = go (ltb 0 n) (ltb (length l) c) refl refl
+    abbrev Meets : Event → Type 0
+    Meets e = (answer (decided e (on l)) ≡ answer (happens e (on l))) × (settled (λ m. m) (decided e (on l)) (length l) ≡ depth (step (on l) e .stack))
+
+    meets : (e : Event) → Meets e
+    meets (put x) = rw numbers (go (ltb 0 n) (ltb (length l) c) refl refl)
       where
         go : (d f : Bool) → ltb 0 n ≡ d → ltb (length l) c ≡ f
-            → (answer (pushes (length l) c (ltb 0 n)) ≡ cond (ltb 0 n) wakesWaiter (answer (push x (mk c l p))))
+            → (answer (pushes (length l) c (ltb 0 n)) ≡ answer (happens (put x) (on l)))
             × (settled (λ m. m) (pushes (length l) c (ltb 0 n)) (length l) ≡ depth (step (on l) (put x) .stack))
         go true f e g = rw e (refl, refl)
         go false true e g = rw (e, g) (refl, refl)
         go false false e g = rw (e, g) (refl, refl)
-
-    gets : (m : List ℕ) (noWait : Bool)
-        → (answer (pops (length m) noWait) ≡ cond (any m) ok (cond noWait ebusy waits))
-        × (settled (λ k. k) (pops (length m) noWait) (length m) ≡ depth (step (on m) (get noWait) .stack))
-    gets [] true = (refl, refl)
-    gets [] false = (refl, refl)
-    gets (y ∷ m) noWait = rw (pop-some c m p y, lt-ltb 0 (suc (length m)) (omega arith)) (refl, omega arith)
+    meets (get noWait) = go l noWait
+      where
+        go : (m : List ℕ) (noWait : Bool) → (answer (pops (length m) noWait) ≡ answer (happens (get noWait) (on m)))
+            × (settled (λ k. k) (pops (length m) noWait) (length m) ≡ depth (step (on m) (get noWait) .stack))
+        go [] true = (refl, refl)
+        go [] false = (refl, refl)
+        go (y ∷ m) noWait = rw (lt-ltb 0 (suc (length m)) (omega arith)) (refl, omega arith)
 
     pub decides : Decides (on l)
-    decides =
-        record {
-          numbers = numbers;
-          put-answer = λ x. rw numbers (puts x .0);
-          put-count = λ x. rw numbers (puts x .1);
-          get-answer = λ w. gets l w .0;
-          get-count = λ w. gets l w .1;
-        }
+    decides = record { numbers = numbers; code = λ e. meets e .0; count = λ e. meets e .1 }
