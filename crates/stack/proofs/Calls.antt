@@ -25,9 +25,6 @@ module _ (c : ℕ) (l p : List ℕ) where
   pub pop-some : (y : ℕ) → pop (mk c (y ∷ l) p) ≡ accept (mk c l (y ∷ p)) ok (y ∷ [])
   pop-some y = rw (lt-ltb 0 (length (y ∷ l)) (omega arith))
 
-pub pop-none : (c : ℕ) (p : List ℕ) → pop (mk c [] p) ≡ refuse ebusy
-pop-none c p = refl
-
 -- the call, the reply, and what is held then
 pub data Does (c : ℕ) : List ℕ → List ℕ → Call → Reply Stack → Type 0 where
   stores : {l p : List ℕ} {x : ℕ} → length l < c → Does c l p (pushing x) (accept (mk c (x ∷ l) (drop 1 p)) ok [])

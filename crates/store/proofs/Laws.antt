@@ -1,6 +1,6 @@
 -- How a function shows what it did, and how its callers use it.
 use mathlib.Core.Path.{_≡_, refl, sym, ap, subst, _∙_}
-use mathlib.Core.Bool.{Bool, true, false}
+use mathlib.Core.Bool.{Bool, true, false, not-eq-not}
 use mathlib.Core.List.{List, [], _∷_}
 use Prim.Native.Nat.{ℕ, _<_, _≤_}
 use native.Mathlib.Omega.{arith}
@@ -19,6 +19,10 @@ any-some (x ∷ l) f = refl
 pub any-none : {A : Type 0} (l : List A) → length l ≡ 0 → any l ≡ false
 any-none [] f = refl
 any-none (x ∷ l) f = absurd (omega arith)
+
+-- a test that does not say yes
+pub refuted : {b : Bool} → (b ≡ true → ⊥) → b ≡ false
+refuted n = not-eq-not .0 n
 
 pub no-code : {n : ℕ} → pos 0 ≡ negsuc n → ⊥
 no-code z = let y : _≡_ {A = ℕ} 0 1 = cc in omega arith
