@@ -1,7 +1,7 @@
 -- How each answer of a function meets the slab's definition. Assumes nothing.
 use mathlib.Core.Path.{_≡_, refl}
 use mathlib.Core.Bool.{Bool, true, false, _&&_}
-use mathlib.Core.List.{List, _∷_}
+use mathlib.Core.List.{List, [], _∷_}
 use Prim.Native.Nat.{ℕ, _+_, _-_, _≤_, _<_}
 use native.Mathlib.Numerals.{add-one}
 use native.Mathlib.Omega.{arith}
@@ -25,7 +25,7 @@ module _ (u n m : ℕ) where
 
   module _ (b : 0 < n) where
     pub alloc-one : (w : Bool) → u < n → AllocDecided u n w m ok (u + 1)
-    alloc-one w h = decides m (rw (lt-ltb 0 n b, le-leb u n (omega arith), lt-ltb u n h, add-one u))
+    alloc-one w h = decides {l = []} m (rw (lt-ltb 0 n b, le-leb u n (omega arith), lt-ltb u n h, add-one u))
 
     pub alloc-over : (w : Bool) → n < u → AllocDecided u n w m einval m
     alloc-over w h = declines m (rw (lt-ltb 0 n b, lt-leb u n h))
@@ -34,7 +34,7 @@ module _ (u n m : ℕ) where
     alloc-refused h = declines m (rw (lt-ltb 0 n b, le-leb u n (omega arith), le-ltb u n (omega arith)))
 
     pub alloc-waits : u ≡ n → AllocDecided u n false m waits u
-    alloc-waits h = decides m (rw (lt-ltb 0 n b, le-leb u n (omega arith), le-ltb u n (omega arith)))
+    alloc-waits h = decides {l = []} m (rw (lt-ltb 0 n b, le-leb u n (omega arith), le-ltb u n (omega arith)))
 
 module _ (u m : ℕ) where
   pub free-none : (w : Bool) → u ≡ 0 → FreeDecided u w m einval m
@@ -42,10 +42,10 @@ module _ (u m : ℕ) where
 
   module _ (b : u ≡ 0 → ⊥) where
     pub free-woke : FreeDecided u true m woke u
-    free-woke = decides m (rw (ne-eqb u 0 b))
+    free-woke = decides {l = []} m (rw (ne-eqb u 0 b))
 
     pub free-one : FreeDecided u false m ok (u - 1)
-    free-one = decides m (rw (ne-eqb u 0 b))
+    free-one = decides {l = []} m (rw (ne-eqb u 0 b))
 
 -- the header's last two words and one link are written
 stored : (a z u x : ℕ) (t l : List ℕ) → Sound (a ∷ z ∷ u ∷ x ∷ t) l → (u' x' i v : ℕ) → u' ≤ a → x' < a → i < a
@@ -95,7 +95,7 @@ module _ (h l : List ℕ) (f : Fit h l) where
       let k : used < blocks = omega (arith, s .few) in
       let p : 0 < getD l next 0 = f .free k in
       let q : getD l next 0 ≤ blocks = f .named k in
-      did-yes place (led alloc) h l formed (rw (is-leading, lt-ltb used blocks k, next-link h l s, ← add-one used))
+      did-yes place (led alloc) h l {l = []} formed (rw (is-leading, lt-ltb used blocks k, next-link h l s, ← add-one used))
       (writes (used + 1) (getD l next 0 - 1) next 0 (omega arith) (omega arith) (s .inside))
 
   -- whether a block is out
@@ -116,7 +116,7 @@ module _ (h l : List ℕ) (f : Fit h l) where
 
     pub takes : (used ≡ 0 → ⊥) → Frees b h l ok (set (set h 2 (used - 1)) 3 b) (set l b (next + 1))
     takes e =
-        did-yes place (led (free b)) h l formed (rw (is-leading, o, ne-eqb used 0 e, ← add-one next))
+        did-yes place (led (free b)) h l {l = []} formed (rw (is-leading, o, ne-eqb used 0 e, ← add-one next))
         (writes (used - 1) b b (next + 1) (omega (arith, f .sound .few)) here here)
 
 -- a block that is not out, and memory that is not as it should be

@@ -15,7 +15,7 @@ use Rattle.store.specs.Store.{accept, answer, After, Becomes}
 use Rattle.store.proofs.Laws.{no-code, became, answers}
 use Rattle.mem_slab.specs.Slab.{Slab, isOut, alloc, returned}
 use Rattle.mem_slab.specs.Post.{slab, place, led}
-use Rattle.mem_slab.specs.HandOver.{HandedOver, HandOver, Counts, Ask, allocates, releases, next, after, NoneInVain}
+use Rattle.mem_slab.specs.HandOver.{HandedOver, HandOver, Counts, Ask, allocates, releases, next, counts, NoneInVain}
 use Rattle.mem_slab.proofs.Memory.{both, Fit}
 use Rattle.mem_slab.proofs.Outs.{free-cases}
 
@@ -38,7 +38,7 @@ module _ (n z u x b : ℕ) (k : List ℕ) (some-out : 0 < u) (few : u ≤ n) (in
   unset : set (set k b (suc x)) b 0 ≡ k
   unset = set-set k b (suc x) 0 ∙ ap (set k b) (sym out) ∙ set-getD k b 0
 
-  pub gives-back : led alloc (returned (record { blocks = n; size = z; used = u; next = x; link = k }) b (u - 1)) ≡ accept (record { blocks = n; size = z; used = u; next = x; link = k }) (pos b)
+  pub gives-back : led alloc (returned (record { blocks = n; size = z; used = u; next = x; link = k }) b (u - 1)) ≡ accept (record { blocks = n; size = z; used = u; next = x; link = k }) (pos b) []
   gives-back =
       let y : suc x - 1 ≡ x = omega arith in
       rw (lt-ltb (u - 1) n (omega arith), getD-set-same k b (suc x) 0 (omega arith), lt-ltb 0 (suc x) (omega arith), le-leb (suc x) n (omega arith), y, back, unset)
@@ -83,9 +83,9 @@ module _ (n u w : ℕ) where
       go false true s t = let k : 0 < w = ltb-true 0 w t in rw (s, t) (v .0, λ p. v .1 k)
       go false false s t = let k : w ≤ 0 = ltb-false 0 w t in rw (s, t) (omega (arith, v .0), λ p. absurd (omega arith))
 
-vain : (n : ℕ) (xs : List Ask) → (after n xs .out ≤ n) × (0 < after n xs .waiting → after n xs .out ≡ n)
+vain : (n : ℕ) (xs : List Ask) → (counts n xs .out ≤ n) × (0 < counts n xs .waiting → counts n xs .out ≡ n)
 vain n [] = (omega arith, λ p. absurd (omega arith))
-vain n (x ∷ xs) = vain-next n (after n xs .out) (after n xs .waiting) (vain n xs) x
+vain n (x ∷ xs) = vain-next n (counts n xs .out) (counts n xs .waiting) (vain n xs) x
 
 pub none-in-vain : (n : ℕ) (xs : List Ask) → NoneInVain n xs
 none-in-vain n xs = let v = vain n xs in record { few = v .0; waiting = v .1 }

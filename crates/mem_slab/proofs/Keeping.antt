@@ -9,7 +9,7 @@ use lib.ListN.{getD, drop}
 use Rattle.seq.proofs.Order.{clash}
 use Rattle.thread.specs.Code.{ok, einval}
 use Rattle.store.specs.Store.{answer, Becomes, After}
-use Rattle.store.specs.History.{Event}
+use Rattle.store.specs.History.{Step}
 use Rattle.mem_slab.specs.Slab.{Slab, isOut}
 use Rattle.mem_slab.specs.Post.{slab, place, fit, Starts}
 use Rattle.mem_slab.specs.Blocks.{Call, allocCall, freeCall, Calls, changed, held}
@@ -18,7 +18,7 @@ use Rattle.mem_slab.proofs.Memory.{Fit, fit-is, is-sound, next-link}
 use Rattle.mem_slab.proofs.Outs.{alloc-cases, free-cases, outcome, out-changes}
 use Rattle.mem_slab.proofs.Stack.{Good, first-is, next-free, popped, good-alloc, some-used, pushed, good-free, good-new, none-out}
 
-pub record Kept (z n : ℕ) (xs : List (Event Call)) (h l : List ℕ) : Type 0 where
+pub record Kept (z n : ℕ) (xs : List (Step Call)) (h l : List ℕ) : Type 0 where
   pub formed : place .formed h l ≡ true
   pub good : Good (slab h l)
   pub blocks : getD h 0 0 ≡ n
@@ -36,15 +36,15 @@ module _ (h l : List ℕ) where
         named = λ u. rw (next-link h l s) at (g .named (getD h 3 0));
       }
 
-module _ (z n : ℕ) (xs : List (Event Call)) (h l : List ℕ) (k : Kept z n xs h l) where
+module _ (z n : ℕ) (xs : List (Step Call)) (h l : List ℕ) (k : Kept z n xs h l) where
   unfit-not : {P : Type 0} → fit h l ≡ false → P
   unfit-not e = clash (sym (fit-is h l (good-fit h l (k .formed) (k .good))) ∙ e)
 
-  module _ (r : ℤ) (h' l' : List ℕ) where
+  module _ (r : ℤ) (h' l' o : List ℕ) where
     abbrev Next : Call → Type 0
-    Next c = Kept z n (record { call = c; answer = r } ∷ xs) h' l'
+    Next c = Kept z n (record { call = c; answer = r; out = o } ∷ xs) h' l'
 
-    outs : (c : Call) → Calls c h l r h' l' → (b : ℕ) → isOut (slab h' l') b ≡ held (record { call = c; answer = r } ∷ xs) b
+    outs : (c : Call) → Calls c h l r h' l' → (b : ℕ) → isOut (slab h' l') b ≡ held (record { call = c; answer = r; out = o } ∷ xs) b
     outs c d b = out-changes c r b h l h' l' (outcome c h l r h' l' d) ∙ ap (changed c r b) (k .out b)
 
     stays : (c : Call) → Calls c h l r h' l' → (h' ≡ h) × (l' ≡ l) → Next c
@@ -98,9 +98,9 @@ module _ (z n : ℕ) (xs : List (Event Call)) (h l : List ℕ) (k : Kept z n xs 
         })
         (d .code, d .after)
 
-  pub step : (c : Call) (r : ℤ) (h' l' : List ℕ) → Calls c h l r h' l' → Kept z n (record { call = c; answer = r } ∷ xs) h' l'
-  step allocCall r h' l' d = pops r h' l' d .next
-  step (freeCall b) r h' l' d = pushes r h' l' b d .next
+  pub step : (c : Call) (r : ℤ) (h' l' o : List ℕ) → Calls c h l r h' l' → Kept z n (record { call = c; answer = r; out = o } ∷ xs) h' l'
+  step allocCall r h' l' o d = pops r h' l' o d .next
+  step (freeCall b) r h' l' o d = pushes r h' l' o b d .next
 
 module _ (z n : ℕ) (h l h₀ l₀ : List ℕ) (s : Starts z n h l ok h₀ l₀) where
   pub kept-new : Kept z n [] h₀ l₀

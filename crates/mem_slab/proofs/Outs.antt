@@ -12,7 +12,7 @@ use borrow.Author.Tests.{lt-ltb, ltb-true, ltb-false, ne-eqb, eqb-true, eqb-fals
 use Rattle.seq.proofs.Order.{clash}
 use Rattle.thread.specs.Code.{ok, enomem, einval}
 use Rattle.store.specs.Store.{Reply, refuse, accept, answer, Place, reply, After, Becomes, Did}
-use Rattle.store.specs.History.{Event, start, then}
+use Rattle.store.specs.History.{Step, begun, made}
 use Rattle.mem_slab.specs.Slab.{Slab, isOut, alloc, free, given, returned}
 use Rattle.mem_slab.specs.Post.{slab, place, fit, led}
 use Rattle.mem_slab.specs.Blocks.{Call, allocCall, freeCall, Calls, Runs, changed, held, out, Given, Returned, Outcome, NoTwo}
@@ -34,7 +34,7 @@ ended P f h b {r} {h'} {b'} y e d = (d .code ∙ ap answer e, subst (λ x. After
 -- by the reply to alloc
 pub alloc-cases : (h l : List ℕ) (P : Reply Slab → Type 0) → (fit h l ≡ false → P (refuse einval))
     → (Fit h l → getD h 0 0 ≤ getD h 2 0 → P (refuse enomem))
-    → (Fit h l → getD h 2 0 < getD h 0 0 → P (accept (given (slab h l) (suc (getD h 2 0))) (pos (getD h 3 0))))
+    → (Fit h l → getD h 2 0 < getD h 0 0 → P (accept (given (slab h l) (suc (getD h 2 0))) (pos (getD h 3 0)) []))
     → P (reply place (led alloc) h l)
 alloc-cases h l P unfit full gave = go (fit h l) (ltb (getD h 2 0) (getD h 0 0)) refl refl
   where
@@ -46,7 +46,7 @@ alloc-cases h l P unfit full gave = go (fit h l) (ltb (getD h 2 0) (getD h 0 0))
 -- and to free
 pub free-cases : (b : ℕ) (h l : List ℕ) (P : Reply Slab → Type 0) → (fit h l ≡ false → P (refuse einval))
     → (Fit h l → out h l b ≡ false → P (refuse einval)) → (Fit h l → out h l b ≡ true → getD h 2 0 ≡ 0 → P (refuse einval))
-    → (Fit h l → out h l b ≡ true → 0 < getD h 2 0 → P (accept (returned (slab h l) b (getD h 2 0 - 1)) ok))
+    → (Fit h l → out h l b ≡ true → 0 < getD h 2 0 → P (accept (returned (slab h l) b (getD h 2 0 - 1)) ok []))
     → P (reply place (led (free b)) h l)
 free-cases b h l P unfit not-out no-out took = go (fit h l) (out h l b) (eqb (getD h 2 0) 0) refl refl refl
   where
@@ -129,9 +129,9 @@ changed-too (freeCall i) (negsuc n) b v w f e = f e
 
 module _ (h₀ l₀ : List ℕ) where
   -- a block that is held is out
-  pub held-out : (xs : List (Event Call)) (h l : List ℕ) (b : ℕ) → Runs h₀ l₀ xs h l → held xs b ≡ true → out h l b ≡ true
-  held-out [] h l b start e = clash (sym e)
-  held-out (x ∷ xs) h' l' b (then {h = h} {b = l} k r u d) e =
+  pub held-out : (xs : List (Step Call)) (h l : List ℕ) (b : ℕ) → Runs h₀ l₀ xs h l → held xs b ≡ true → out h l b ≡ true
+  held-out [] h l b begun e = clash (sym e)
+  held-out (x ∷ xs) h' l' b (made {k = k} {r} {h} {b = l} o o' u d f) e =
       out-changes k r b h l h' l' (outcome k h l r h' l' d) ∙ changed-too k r b (held xs b) (out h l b) (held-out xs h l b u) e
 
   pub no-two : NoTwo h₀ l₀

@@ -2,7 +2,7 @@
 use mathlib.Core.Path.{_≡_, refl, sym, ap, _∙_}
 use mathlib.Core.Bool.{Bool, true, false, cond, _&&_, and-false}
 use mathlib.Core.Logic.{_⊎_, inl, inr}
-use mathlib.Core.List.{List}
+use mathlib.Core.List.{List, []}
 use Prim.Native.Nat.{ℕ, suc, _+_, _-_, _≤_, _<_}
 use native.Mathlib.Numerals.{add-one}
 use native.Mathlib.Omega.{arith}
@@ -200,7 +200,7 @@ invariant-inductive h l r h' l' =
   where
     go : (k : Call) → Inv (slab h l) → (y : Reply Slab) → After place y h l h' l' → Inv (slab h' l')
     go k i (refuse c) a = rw (a .0, a .1) i
-    go k i (accept s c) a = formed-inv h' l' (a .formed)
+    go k i (accept s c o) a = formed-inv h' l' (a .formed)
 
 pub alloc-free : (u n : ℕ) → u < n → AllocFree u n
 alloc-free u n k =
@@ -236,7 +236,7 @@ module _ (n z u x : ℕ) (k : List ℕ) (few : u < n) (inside : x < n) (long : n
   unset = let y : suc (getD k x 0 - 1) ≡ getD k x 0 = omega arith in rw (y, set-set) (set-getD k x 0)
 
   comes-back : leads (given (record { blocks = n; size = z; used = u; next = x; link = k }) (suc u)) ≡ true
-      → led (free x) (given (record { blocks = n; size = z; used = u; next = x; link = k }) (suc u)) ≡ accept (record { blocks = n; size = z; used = u; next = x; link = k }) ok
+      → led (free x) (given (record { blocks = n; size = z; used = u; next = x; link = k }) (suc u)) ≡ accept (record { blocks = n; size = z; used = u; next = x; link = k }) ok []
   comes-back e =
       let y : suc u - 1 ≡ u = omega arith in
       rw (e, lt-ltb x n inside, getD-set-same k x 0 0 (omega arith), ne-eqb (suc u) 0 (λ p. omega arith), y, unset)
@@ -254,7 +254,7 @@ alloc-free-memory h l b h₁ l₁ h' l' r d t a =
         let n = getD h 0 0 in
         let s = f .sound in
         let v : leads (slab h₁ l₁) ≡ true = both (place .formed h₁ l₁) (leads (slab h₁ l₁)) t .1 in
-        let g : led (free b) (slab h₁ l₁) ≡ accept (slab h l) ok =
+        let g : led (free b) (slab h₁ l₁) ≡ accept (slab h l) ok [] =
         rw e (ap (led (free (getD h 3 0))) (m .object) ∙ comes-back n (getD h 1 0) (getD h 2 0) (getD h 3 0) (take n l) u (s .inside) (omega (arith, length-take-le n l (s .room))) (rw (next-link h l s) (f .free u)) (sym (ap leads (m .object)) ∙ v)) in
         let w = became place (led (free b)) h₁ l₁ a (m .formed) g in
         let i : getD h₁ 0 0 ≡ n = ap (λ (q : Slab). q .blocks) (m .object) in
