@@ -29,8 +29,9 @@ now = record { blocks = 3; size = 16; used = 1; next = 2; link = 1 ∷ 0 ∷ 1 �
 
 pub happened : Ran does (fresh 16 3) steps now
 happened =
-    ran {k = freeCall 2} [] [] (ran {k = freeCall 0} [] [] (ran {k = freeCall 3} [] [] (ran {k = allocCall} [] [] (ran {k = freeCall 1} [] [] (ran {k = freeCall 1} [] []
-    (ran {k = allocCall} [] [] (ran {k = allocCall} [] [] (ran {k = allocCall} [] [] (ran {k = allocCall} [] [] history.fresh refl) refl) refl) refl) refl) refl) refl) refl) refl) refl
+    ran {k = freeCall 2} [] [] (ran {k = freeCall 0} [] [] (ran {k = freeCall 3} [] [] (ran {k = allocCall} [] [] (ran {k = freeCall 1} [] []
+    (ran {k = freeCall 1} [] [] (ran {k = allocCall} [] [] (ran {k = allocCall} [] [] (ran {k = allocCall} [] [] (ran {k = allocCall} [] []
+    history.fresh refl) refl) refl) refl) refl) refl) refl) refl) refl) refl
 
 pub free-are : freeList now ≡ 2 ∷ 0 ∷ []
 free-are = refl

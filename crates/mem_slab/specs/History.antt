@@ -62,18 +62,18 @@ abbrev pub AllTold : ℕ → List (Step Call) → Type 0
 AllTold n [] = Unit {0}
 AllTold n (x ∷ xs) = Told n (x .call) (x .answer) xs × AllTold n xs
 
--- n blocks of the size z, after the steps xs, the last in front; h and l is the memory now
-pub record Promise (z n : ℕ) (xs : List (Step Call)) (h l : List ℕ) : Type 0 where
-  pub blocks : getD h 0 0 ≡ n
-  pub size : getD h 1 0 ≡ z
+-- n blocks of the size z, after the steps xs, the last in front; the slab is s now
+pub record Promise (z n : ℕ) (xs : List (Step Call)) (s : Slab) : Type 0 where
+  pub blocks : s .blocks ≡ n
+  pub size : s .size ≡ z
   -- each call was told what it should be: last freed, first given
   pub told : AllTold n xs
   -- the free list is the stock. A block that nobody holds stands there once, and nothing else does
-  pub list : freeList (slab h l) ≡ stock n xs
+  pub list : freeList s ≡ stock n xs
   pub once : (b : ℕ) → count b (stock n xs) ≡ cond (ltb b n && not (held xs b)) 1 0
   -- a block is out exactly if somebody holds it, and as many are out as are held
-  pub out : (b : ℕ) → isOut (slab h l) b ≡ held xs b
-  pub used : getD h 2 0 ≡ number (held xs) n
+  pub out : (b : ℕ) → isOut s b ≡ held xs b
+  pub used : s .used ≡ number (held xs) n
   -- there is none exactly if all blocks are held
   pub all-held : stock n xs ≡ [] → (b : ℕ) → b < n → held xs b ≡ true
   pub some-free : (b : ℕ) → b < n → held xs b ≡ false → stock n xs ≡ [] → ⊥
@@ -81,4 +81,4 @@ pub record Promise (z n : ℕ) (xs : List (Step Call)) (h l : List ℕ) : Type 0
 -- from any memory in which init made a slab, h₀ and l₀
 abbrev pub Always : ℕ → ℕ → Type 0
 Always z n =
-    (h l h₀ l₀ : List ℕ) → Starts z n h l ok h₀ l₀ → (xs : List (Step Call)) (h' l' : List ℕ) → Runs h₀ l₀ xs h' l' → Promise z n xs h' l'
+    (h l h₀ l₀ : List ℕ) → Starts z n h l ok h₀ l₀ → (xs : List (Step Call)) (h' l' : List ℕ) → Runs h₀ l₀ xs h' l' → Promise z n xs (slab h' l')

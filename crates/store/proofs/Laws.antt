@@ -28,7 +28,8 @@ pub no-code : {n : ℕ} → pos 0 ≡ negsuc n → ⊥
 no-code z = let y : _≡_ {A = ℕ} 0 1 = cc in omega arith
 
 module _ {S : Type 0} (P : Place S) (f : S → Reply S) (h b : List ℕ) where
-  did : (y : Reply S) (h' b' : List ℕ) → reply P f h b ≡ y → After P y h b h' b' → Did P f h b (answer y) h' b'
+  -- by the reply
+  pub did : (y : Reply S) (h' b' : List ℕ) → reply P f h b ≡ y → After P y h b h' b' → Did P f h b (answer y) h' b'
   did y h' b' e a = record { code = ap answer (sym e); after = subst (λ (x : Reply S). After P x h b h' b') (sym e) a }
 
   pub replies : P .formed h b ≡ true → reply P f h b ≡ f (P .object h b)
@@ -96,6 +97,12 @@ module _ {S : Type 0} (P : Place S) (f : S → Reply S) (h b : List ℕ) where
 
     pub kept-no : {c : ℤ} → P .formed h b ≡ true → f (P .object h b) ≡ refuse c → (r ≡ c) × (h' ≡ h) × (b' ≡ b)
     kept-no e o = kept (replies e ∙ o)
+
+-- the way back
+pub becomes-back : {S : Type 0} (P : Place S) {s : S} {h b h' b' : List ℕ} → P .formed h b ≡ true → P .size h' ≡ P .size h → Becomes P s h b h' b'
+    → Becomes P (P .object h b) h' b' h b
+becomes-back P e z m =
+    record { formed = e; object = refl; beside = sym (m .beside); rest = sym (rw z at (m .rest)); long = (sym (m .long .0), sym (m .long .1)) }
 
 -- what is decided on plain numbers, or declined
 module _ {d : Reply ℕ} {a : ℤ} where
