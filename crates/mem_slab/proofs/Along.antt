@@ -57,18 +57,14 @@ number-ext f g zero h = refl
 number-ext f g (suc n) h = rw (h n, number-ext f g n h)
 
 -- the numbers from k on, each once
-count-below : (b k n : ℕ) → b < k → count b (upFrom k n) ≡ 0
-count-below b k zero h = refl
-count-below b k (suc n) h = rw (ne-eqb k b (λ e. omega arith)) (count-below b (suc k) n (omega arith))
-
-pub count-above : (b k n : ℕ) → k + n ≤ b → count b (upFrom k n) ≡ 0
-count-above b k zero h = refl
-count-above b k (suc n) h = rw (ne-eqb k b (λ e. omega arith)) (count-above b (suc k) n (omega arith))
+pub count-none : (b k n : ℕ) → (k ≤ b → k + n ≤ b) → count b (upFrom k n) ≡ 0
+count-none b k zero h = refl
+count-none b k (suc n) h = rw (ne-eqb k b (λ e. omega (arith, h (omega arith)))) (count-none b (suc k) n (λ e. omega (arith, h (omega arith))))
 
 pub count-up : (b k n : ℕ) → k ≤ b → b < k + n → count b (upFrom k n) ≡ 1
 count-up b k zero h e = absurd (omega arith)
 count-up b k (suc n) h e = go (eqb k b) refl (count-up b (suc k) n)
   where
     go : (t : Bool) → eqb k b ≡ t → (suc k ≤ b → b < suc k + n → count b (upFrom (suc k) n) ≡ 1) → count b (upFrom k (suc n)) ≡ 1
-    go true t ih = rw t (ap suc (count-below b (suc k) n (omega (arith, eqb-true k b t))))
+    go true t ih = rw t (ap suc (count-none b (suc k) n (λ e. omega (arith, eqb-true k b t))))
     go false t ih = let d : k ≡ b → ⊥ = eqb-false k b t in rw t (ih (omega arith) (omega arith))

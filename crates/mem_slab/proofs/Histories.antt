@@ -5,15 +5,16 @@ use mathlib.Core.List.{List, [], _∷_}
 use Prim.Native.Nat.{ℕ, suc, _-_, _<_}
 use native.Mathlib.Omega.{arith}
 use lib.Dec.{ltb, eqb}
+use lib.IntN.{ℤ}
 use lib.ListN.{drop}
 use borrow.Author.Tests.{lt-ltb, ltb-true}
 use Rattle.seq.proofs.Order.{clash}
-use Rattle.store.specs.Store.{Reply, answer, left}
+use Rattle.store.specs.Store.{Reply, answer, left, out}
 use Rattle.store.specs.History.{Step}
-use Rattle.store.proofs.Histories.{throughout, from-start, allowed}
+use Rattle.store.proofs.Histories.{plain-made, throughout, from-start, allowed}
 use Rattle.mem_slab.specs.Slab.{Slab, isOut}
 use Rattle.mem_slab.specs.Post.{place}
-use Rattle.mem_slab.specs.Blocks.{Call, does, held}
+use Rattle.mem_slab.specs.Blocks.{Call, does, Calls, Runs, held}
 use Rattle.mem_slab.specs.History.{count, number, freeList, top, stock, AllTold, Promise, Always}
 use Rattle.mem_slab.proofs.Memory.{both}
 use Rattle.mem_slab.proofs.Along.{number-ext}
@@ -87,3 +88,16 @@ slab-history z n h l h₀ l₀ s xs h' l' m =
     let b : 0 < n = ltb-true 0 n (both (ltb 0 n) _ (both (ltb 0 z) _ (allowed s) .1) .0) in
     promise (throughout does (Holds z n) (λ k ss t o i. goes-on (which t k) i o)
     (record { good = good-new z n b; blocks = refl; size = refl; told = tt; list = free-new z n b; out = none-out z n b }) (from-start place does s m .1))
+
+-- each function makes a step: what it ensures is what a step needs
+nothing-out : {s : Slab} {k : Call} {y : Reply Slab} → Does s k y → out y ≡ []
+nothing-out (gives u p q) = refl
+nothing-out (spent u) = refl
+nothing-out (takes o u) = refl
+nothing-out (strange o) = refl
+nothing-out (unused o u) = refl
+nothing-out (astray e) = refl
+
+pub call-made : {h₀ l₀ h l h' l' : List ℕ} {xs : List (Step Call)} (k : Call) {r : ℤ} → Runs h₀ l₀ xs h l → Calls k h l r h' l'
+    → Runs h₀ l₀ (record { call = k; answer = r; out = [] } ∷ xs) h' l'
+call-made k m d = plain-made place does m (λ s. nothing-out (which s k)) d

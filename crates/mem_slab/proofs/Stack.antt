@@ -14,7 +14,7 @@ use Rattle.mem_slab.specs.History.{count, number, along, freeList, isFre
 use Rattle.mem_slab.proofs.Memory.{both}
 use Rattle.mem_slab.proofs.New.{length-up, length-new}
 use Rattle.mem_slab.proofs.Calls.{not-zero, out-here, out-other, out-set}
-use Rattle.mem_slab.proofs.Along.{along-same, along-up, number-more, number-none, count-up, count-above}
+use Rattle.mem_slab.proofs.Along.{along-same, along-up, number-more, number-none, count-up, count-none}
 
 pub record Good (s : Slab) : Type 0 where
   pub few : s .used ≤ s .blocks
@@ -150,35 +150,28 @@ module _ (z n : ℕ) (some-blocks : 0 < n) where
   link-last : getD links (n - 1) 0 ≡ 1
   link-last = getD-at (upFrom 2 (n - 1)) 1 [] 0 (n - 1) (length-up 2 (n - 1))
 
-  link-new : (j : ℕ) → j < n → (0 < getD links j 0) × (getD links j 0 ≤ n)
-  link-new j h = go (ltb (suc j) n) refl
+  -- each block names one
+  link-new : (j : ℕ) → (getD links j 0 ≤ n) × (isOut (fresh z n) j ≡ false)
+  link-new j = go (ltb (suc j) n) (ltb j n) refl refl
     where
-      go : (c : Bool) → ltb (suc j) n ≡ c → (0 < getD links j 0) × (getD links j 0 ≤ n)
-      go true t = let y = link-up j (ltb-true (suc j) n t) in (omega arith, omega (arith, ltb-true (suc j) n t))
-      go false t =
-          let q : j ≡ n - 1 = omega (arith, ltb-false (suc j) n t) in
-          rw (q, link-last) (omega arith, some-blocks)
-
-  named-new : (b : ℕ) → getD links b 0 ≤ n
-  named-new b = go (ltb b n) refl
-    where
-      go : (c : Bool) → ltb b n ≡ c → getD links b 0 ≤ n
-      go true t = link-new b (ltb-true b n t) .1
-      go false t = rw (List·getD-eq-default links 0 {n = b} (omega (arith, length-new n some-blocks, ltb-false b n t))) (omega arith)
+      go : (a b : Bool) → ltb (suc j) n ≡ a → ltb j n ≡ b → (getD links j 0 ≤ n) × (isOut (fresh z n) j ≡ false)
+      go true b s t =
+          let k = ltb-true (suc j) n s in
+          rw (link-up j k, lt-ltb j n (omega arith)) (k, not-zero (suc j))
+      go false true s t =
+          let e : j ≡ n - 1 = omega (arith, ltb-false (suc j) n s, ltb-true j n t) in
+          rw (t, e, link-last) (some-blocks, refl)
+      go false false s t = rw (t, List·getD-eq-default links 0 {n = j} (omega (arith, length-new n some-blocks, ltb-false j n t))) (omega arith, refl)
 
   pub none-out : (b : ℕ) → isOut (fresh z n) b ≡ false
-  none-out b = go (ltb b n) refl
-    where
-      go : (c : Bool) → ltb b n ≡ c → isOut (fresh z n) b ≡ false
-      go true t = rw t (ne-eqb (getD links b 0) 0 (λ q. omega (arith, link-new b (ltb-true b n t) .0)))
-      go false t = rw t
+  none-out b = link-new b .1
 
   once-new : (b : ℕ) → count b (upFrom 0 n) ≡ cond (ltb b n && not (isOut (fresh z n) b)) 1 0
   once-new b = go (ltb b n) refl
     where
       go : (c : Bool) → ltb b n ≡ c → count b (upFrom 0 n) ≡ cond (ltb b n && not (isOut (fresh z n) b)) 1 0
       go true t = rw (none-out b, t) (count-up b 0 n (omega arith) (omega (arith, ltb-true b n t)))
-      go false t = rw (none-out b, t) (count-above b 0 n (omega (arith, ltb-false b n t)))
+      go false t = rw (none-out b, t) (count-none b 0 n (λ e. omega (arith, ltb-false b n t)))
 
   -- all are free, by their numbers
   pub free-new : freeList (fresh z n) ≡ upFrom 0 n
@@ -190,7 +183,7 @@ module _ (z n : ℕ) (some-blocks : 0 < n) where
         few = omega arith;
         inside = some-blocks;
         links = omega (arith, length-new n some-blocks);
-        named = named-new;
+        named = λ b. link-new b .0;
         once = λ b. ap (count b) free-new ∙ once-new b;
         used = sym (number-none (isOut (fresh z n)) n none-out);
       }
