@@ -7,15 +7,9 @@ use native.Mathlib.Omega.{arith}
 use lib.Dec.{eqb}
 use lib.ListN.{getD, set}
 use lib.Seq.{getD-set-other}
-use borrow.Author.Tests.{eq-eqb, ne-eqb, eqb-true, eqb-false}
+use borrow.Author.Tests.{ne-eqb, eqb-true, eqb-false}
 use Rattle.mem_slab.specs.Slab.{upFrom}
 use Rattle.mem_slab.specs.History.{count, number, along}
-
-pub count-first : (x : ℕ) (l : List ℕ) → count x (x ∷ l) ≡ suc (count x l)
-count-first x l = rw (eq-eqb x x refl)
-
-pub count-other : (x y : ℕ) (l : List ℕ) → (y ≡ x → ⊥) → count x (y ∷ l) ≡ count x l
-count-other x y l d = rw (ne-eqb y x d)
 
 -- where b stands nowhere along the links, its own is not read
 pub along-same : (l : List ℕ) (b v c m : ℕ) → count b (along l c m) ≡ 0 → along (set l b v) c m ≡ along l c m
@@ -62,31 +56,15 @@ pub number-ext : (f g : ℕ → Bool) (n : ℕ) → ((i : ℕ) → f i ≡ g i) 
 number-ext f g zero h = refl
 number-ext f g (suc n) h = rw (h n, number-ext f g n h)
 
-pub number-some : (f : ℕ → Bool) (b n : ℕ) → b < n → f b ≡ true → 0 < number f n
-number-some f b zero h e = absurd (omega arith)
-number-some f b (suc n) h e = go (eqb n b) refl (λ k. number-some f b n k e)
-  where
-    pick : (c : Bool) → 0 < number f n → 0 < cond c (suc (number f n)) (number f n)
-    pick true k = omega arith
-    pick false k = k
-
-    go : (t : Bool) → eqb n b ≡ t → (b < n → 0 < number f n) → 0 < number f (suc n)
-    go true t ih = rw (eqb-true n b t, e) (omega arith)
-    go false t ih = let d : n ≡ b → ⊥ = eqb-false n b t in pick (f n) (ih (omega arith))
-
 -- the numbers from k on, each once
-count-below : (b k n : ℕ) → b < k → count b (upFrom k n) ≡ 0
-count-below b k zero h = refl
-count-below b k (suc n) h = rw (ne-eqb k b (λ e. omega arith)) (count-below b (suc k) n (omega arith))
-
-pub count-above : (b k n : ℕ) → k + n ≤ b → count b (upFrom k n) ≡ 0
-count-above b k zero h = refl
-count-above b k (suc n) h = rw (ne-eqb k b (λ e. omega arith)) (count-above b (suc k) n (omega arith))
+pub count-none : (b k n : ℕ) → (k ≤ b → k + n ≤ b) → count b (upFrom k n) ≡ 0
+count-none b k zero h = refl
+count-none b k (suc n) h = rw (ne-eqb k b (λ e. omega (arith, h (omega arith)))) (count-none b (suc k) n (λ e. omega (arith, h (omega arith))))
 
 pub count-up : (b k n : ℕ) → k ≤ b → b < k + n → count b (upFrom k n) ≡ 1
 count-up b k zero h e = absurd (omega arith)
 count-up b k (suc n) h e = go (eqb k b) refl (count-up b (suc k) n)
   where
     go : (t : Bool) → eqb k b ≡ t → (suc k ≤ b → b < suc k + n → count b (upFrom (suc k) n) ≡ 1) → count b (upFrom k (suc n)) ≡ 1
-    go true t ih = rw t (ap suc (count-below b (suc k) n (omega (arith, eqb-true k b t))))
+    go true t ih = rw t (ap suc (count-none b (suc k) n (λ e. omega (arith, eqb-true k b t))))
     go false t ih = let d : k ≡ b → ⊥ = eqb-false k b t in rw t (ih (omega arith) (omega arith))

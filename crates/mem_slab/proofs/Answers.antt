@@ -1,7 +1,7 @@
 -- How each answer of a function meets the slab's definition. Assumes nothing.
 use mathlib.Core.Path.{_≡_, refl}
 use mathlib.Core.Bool.{Bool, true, false, _&&_}
-use mathlib.Core.List.{List, _∷_}
+use mathlib.Core.List.{List, []}
 use Prim.Native.Nat.{ℕ, _+_, _-_, _≤_, _<_}
 use native.Mathlib.Numerals.{add-one}
 use native.Mathlib.Omega.{arith}
@@ -10,13 +10,13 @@ use lib.IntN.{pos}
 use lib.ListN.{getD, take, set, length-set}
 use lib.Seq.{getD-take, take-set-lt, drop-set-lt}
 use borrow.Author.Tests.{lt-ltb, le-ltb, le-leb, lt-leb, ltb-true, eq-eqb, ne-eqb}
-use Rattle.seq.proofs.Words.{by-words}
+use Rattle.seq.proofs.Words.{spelled, spell}
 use Rattle.thread.specs.Code.{ok, enomem, einval}
 use Rattle.store.specs.Store.{Becomes}
 use Rattle.store.proofs.Laws.{decides, declines, did-no, did-yes}
 use Rattle.mem_slab.specs.Slab.{Slab, isOut, waits, woke, leads, alloc, free}
 use Rattle.mem_slab.specs.Post.{slab, place, fit, led, isFull, isEmpty, Allocs, Frees, AllocDecided, FreeDecided}
-use Rattle.mem_slab.proofs.Memory.{both, Sound, sound-is, Fit, fit-is, is-fit, leads-is, next-link, unfit}
+use Rattle.mem_slab.proofs.Memory.{both, sound-is, Fit, fit-is, is-fit, leads-is, next-link, unfit}
 
 -- on plain numbers
 module _ (u n m : ℕ) where
@@ -25,7 +25,7 @@ module _ (u n m : ℕ) where
 
   module _ (b : 0 < n) where
     pub alloc-one : (w : Bool) → u < n → AllocDecided u n w m ok (u + 1)
-    alloc-one w h = decides m (rw (lt-ltb 0 n b, le-leb u n (omega arith), lt-ltb u n h, add-one u))
+    alloc-one w h = decides {l = []} m (rw (lt-ltb 0 n b, le-leb u n (omega arith), lt-ltb u n h, add-one u))
 
     pub alloc-over : (w : Bool) → n < u → AllocDecided u n w m einval m
     alloc-over w h = declines m (rw (lt-ltb 0 n b, lt-leb u n h))
@@ -34,7 +34,7 @@ module _ (u n m : ℕ) where
     alloc-refused h = declines m (rw (lt-ltb 0 n b, le-leb u n (omega arith), le-ltb u n (omega arith)))
 
     pub alloc-waits : u ≡ n → AllocDecided u n false m waits u
-    alloc-waits h = decides m (rw (lt-ltb 0 n b, le-leb u n (omega arith), le-ltb u n (omega arith)))
+    alloc-waits h = decides {l = []} m (rw (lt-ltb 0 n b, le-leb u n (omega arith), le-ltb u n (omega arith)))
 
 module _ (u m : ℕ) where
   pub free-none : (w : Bool) → u ≡ 0 → FreeDecided u w m einval m
@@ -42,23 +42,10 @@ module _ (u m : ℕ) where
 
   module _ (b : u ≡ 0 → ⊥) where
     pub free-woke : FreeDecided u true m woke u
-    free-woke = decides m (rw (ne-eqb u 0 b))
+    free-woke = decides {l = []} m (rw (ne-eqb u 0 b))
 
     pub free-one : FreeDecided u false m ok (u - 1)
-    free-one = decides m (rw (ne-eqb u 0 b))
-
--- the header's last two words and one link are written
-stored : (a z u x : ℕ) (t l : List ℕ) → Sound (a ∷ z ∷ u ∷ x ∷ t) l → (u' x' i v : ℕ) → u' ≤ a → x' < a → i < a
-    → Becomes place (record { blocks = a; size = z; used = u'; next = x'; link = set (take a l) i v }) (a ∷ z ∷ u ∷ x ∷ t) l (a ∷ z ∷ u' ∷ x' ∷ t) (set l i v)
-stored a z u x t l s u' x' i v p q k =
-    record {
-      formed = sound-is (a ∷ z ∷ u' ∷ x' ∷ t) (set l i v)
-          (record { words = s .words; blocks = s .blocks; sized = s .sized; few = p; inside = q; room = rw (length-set l i v) (s .room) });
-      object = rw (take-set-lt a l i v k);
-      beside = refl;
-      rest = drop-set-lt a l i v k;
-      long = (refl, length-set l i v);
-    }
+    free-one = decides {l = []} m (rw (ne-eqb u 0 b))
 
 module _ (h l : List ℕ) (f : Fit h l) where
   abbrev blocks : ℕ
@@ -76,14 +63,21 @@ module _ (h l : List ℕ) (f : Fit h l) where
   is-leading : leads (slab h l) ≡ true
   is-leading = leads-is h l (f .sound) (f .free, f .named)
 
-  pub writes : (u' x' i v : ℕ) → u' ≤ getD h 0 0 → x' < getD h 0 0 → i < getD h 0 0
-      → Becomes place (record { blocks = getD h 0 0; size = getD h 1 0; used = u'; next = x'; link = set (take (getD h 0 0) l) i v }) h l (set (set h 2 u') 3 x') (set l i v)
-  writes =
-      by-words 4
-      (λ h. Sound h l → (u' x' i v : ℕ) → u' ≤ getD h 0 0 → x' < getD h 0 0 → i < getD h 0 0
-      → Becomes place (record { blocks = getD h 0 0; size = getD h 1 0; used = u'; next = x'; link = set (take (getD h 0 0) l) i v }) h l (set (set h 2 u') 3 x')
-      (set l i v))
-      (λ a z u x t s. stored a z u x t l s) h (f .sound .words) (f .sound)
+  -- the header's last two words and one link are written
+  writes : (u' x' i v : ℕ) → u' ≤ blocks → x' < blocks → i < blocks
+      → Becomes place (record { blocks = blocks; size = getD h 1 0; used = u'; next = x'; link = set (take blocks l) i v }) h l (set (set h 2 u') 3 x')
+      (set l i v)
+  writes u' x' i v p q k =
+      let s = f .sound in
+      let z = rw (spell 4 h (s .words)) at (s .sized) in
+      rw (spell 4 h (s .words)) (record {
+        formed = sound-is (set (set (spelled 4 h) 2 u') 3 x') (set l i v)
+            (record { words = omega arith; blocks = s .blocks; sized = z; few = p; inside = q; room = rw (length-set l i v) (s .room) });
+        object = rw (take-set-lt blocks l i v k);
+        beside = refl;
+        rest = drop-set-lt blocks l i v k;
+        long = (refl, length-set l i v);
+      })
 
   -- alloc
   pub all-out : used ≡ blocks → Allocs h l enomem h l
@@ -95,7 +89,7 @@ module _ (h l : List ℕ) (f : Fit h l) where
       let k : used < blocks = omega (arith, s .few) in
       let p : 0 < getD l next 0 = f .free k in
       let q : getD l next 0 ≤ blocks = f .named k in
-      did-yes place (led alloc) h l formed (rw (is-leading, lt-ltb used blocks k, next-link h l s, ← add-one used))
+      did-yes place (led alloc) h l {l = []} formed (rw (is-leading, lt-ltb used blocks k, next-link h l s, ← add-one used))
       (writes (used + 1) (getD l next 0 - 1) next 0 (omega arith) (omega arith) (s .inside))
 
   -- whether a block is out
@@ -116,7 +110,7 @@ module _ (h l : List ℕ) (f : Fit h l) where
 
     pub takes : (used ≡ 0 → ⊥) → Frees b h l ok (set (set h 2 (used - 1)) 3 b) (set l b (next + 1))
     takes e =
-        did-yes place (led (free b)) h l formed (rw (is-leading, o, ne-eqb used 0 e, ← add-one next))
+        did-yes place (led (free b)) h l {l = []} formed (rw (is-leading, o, ne-eqb used 0 e, ← add-one next))
         (writes (used - 1) b b (next + 1) (omega (arith, f .sound .few)) here here)
 
 -- a block that is not out, and memory that is not as it should be

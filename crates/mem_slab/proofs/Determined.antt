@@ -11,7 +11,7 @@ use Rattle.mem_slab.specs.Post.{place, led}
 use Rattle.mem_slab.specs.Determined.{Determined}
 
 -- the four words and the links are the slab
-faithful : Faithful place
+pub faithful : Faithful place
 faithful =
     record {
       header = λ h l h' l' f f' e. back-alike 4 h h' (λ i. e i .next ∷ e i .used ∷ e i .size ∷ e i .blocks ∷ []);

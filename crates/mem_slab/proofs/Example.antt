@@ -4,40 +4,36 @@ use mathlib.Core.Bool.{true, false}
 use mathlib.Core.List.{List, [], _∷_}
 use lib.IntN.{ℤ, pos}
 use Rattle.thread.specs.Code.{ok, enomem, einval}
-use Rattle.store.specs.Store.{Reply, refuse, accept, answer, reply}
-use Rattle.store.specs.History.{start, then}
+use Rattle.store.specs.Store.{Reply, refuse, accept, reply}
+use Rattle.store.specs.History.{Step, Ran, ran, begun, made}
+use Rattle.store.specs.History as history
 use Rattle.mem_slab.specs.Slab.{Slab, alloc, free, fresh}
 use Rattle.mem_slab.specs.Post.{slab, place, fit, led, Starts}
-use Rattle.mem_slab.specs.Blocks.{Call, allocCall, freeCall, meant, Calls, Runs, held}
+use Rattle.mem_slab.specs.Blocks.{Call, allocCall, freeCall, does, Calls, Runs, held}
 use Rattle.mem_slab.specs.History.{freeList}
-use Rattle.mem_slab.specs.HandOver.{Ask, allocates, releases, after}
+use Rattle.mem_slab.specs.HandOver.{Ask, allocates, releases, counts}
 use Rattle.mem_slab.proofs.New.{starts}
 use native.Mathlib.Omega.{arith}
 
--- what a reply leaves of s
-abbrev leaves : Slab → Reply Slab → Slab
-leaves s (refuse r) = s
-leaves s (accept t r) = t
+abbrev saw : Call → ℤ → Step Call
+saw k a = record { call = k; answer = a; out = [] }
 
-abbrev codes : List Call → Slab → List ℤ
-codes [] s = []
-codes (k ∷ ks) s = answer (led (meant k) s) ∷ codes ks (leaves s (led (meant k) s))
+-- three blocks: all go out; one comes back, twice is once too often; the last that came back goes out first. The last call in front
+abbrev steps : List (Step Call)
+steps =
+    saw (freeCall 2) ok ∷ saw (freeCall 0) ok ∷ saw (freeCall 3) einval ∷ saw allocCall (pos 1) ∷ saw (freeCall 1) einval ∷ saw (freeCall 1) ok
+    ∷ saw allocCall enomem ∷ saw allocCall (pos 2) ∷ saw allocCall (pos 1) ∷ saw allocCall (pos 0) ∷ []
 
-abbrev left : List Call → Slab → Slab
-left [] s = s
-left (k ∷ ks) s = left ks (leaves s (led (meant k) s))
+abbrev now : Slab
+now = record { blocks = 3; size = 16; used = 1; next = 2; link = 1 ∷ 0 ∷ 1 ∷ [] }
 
--- three blocks: all go out; one comes back, twice is once too often; the last that came back goes out first
-abbrev calls : List Call
-calls = allocCall ∷ allocCall ∷ allocCall ∷ allocCall ∷ freeCall 1 ∷ freeCall 1 ∷ allocCall ∷ freeCall 3 ∷ freeCall 0 ∷ freeCall 2 ∷ []
+pub happened : Ran does (fresh 16 3) steps now
+happened =
+    ran {k = freeCall 2} [] [] (ran {k = freeCall 0} [] [] (ran {k = freeCall 3} [] [] (ran {k = allocCall} [] [] (ran {k = freeCall 1} [] []
+    (ran {k = freeCall 1} [] [] (ran {k = allocCall} [] [] (ran {k = allocCall} [] [] (ran {k = allocCall} [] [] (ran {k = allocCall} [] []
+    history.fresh refl) refl) refl) refl) refl) refl) refl) refl) refl) refl
 
-pub codes-are : codes calls (fresh 16 3) ≡ pos 0 ∷ pos 1 ∷ pos 2 ∷ enomem ∷ ok ∷ einval ∷ pos 1 ∷ einval ∷ ok ∷ ok ∷ []
-codes-are = refl
-
-pub left-is : left calls (fresh 16 3) ≡ record { blocks = 3; size = 16; used = 1; next = 2; link = 1 ∷ 0 ∷ 1 ∷ [] }
-left-is = refl
-
-pub free-are : freeList (left calls (fresh 16 3)) ≡ 2 ∷ 0 ∷ []
+pub free-are : freeList now ≡ 2 ∷ 0 ∷ []
 free-are = refl
 
 -- in memory: init, an alloc, a free; a fifth word and a third link are not the slab's
@@ -50,17 +46,17 @@ gave = record { code = refl; after = record { formed = refl; object = refl; besi
 pub took : Calls (freeCall 0) (2 ∷ 16 ∷ 1 ∷ 1 ∷ 9 ∷ []) (0 ∷ 1 ∷ 9 ∷ []) ok (2 ∷ 16 ∷ 0 ∷ 0 ∷ 9 ∷ []) (2 ∷ 1 ∷ 9 ∷ [])
 took = record { code = refl; after = record { formed = refl; object = refl; beside = refl; rest = refl; long = (refl, refl) } }
 
-pub ran : Runs (2 ∷ 16 ∷ 0 ∷ 0 ∷ 9 ∷ []) (2 ∷ 1 ∷ 9 ∷ []) (record { call = freeCall 0; answer = ok } ∷ record { call = allocCall; answer = pos 0 } ∷ []) (2 ∷ 16 ∷ 0 ∷ 0 ∷ 9 ∷ []) (2 ∷ 1 ∷ 9 ∷ [])
-ran = then (freeCall 0) ok (then allocCall (pos 0) start gave) took
+pub made-two : Runs (2 ∷ 16 ∷ 0 ∷ 0 ∷ 9 ∷ []) (2 ∷ 1 ∷ 9 ∷ []) (saw (freeCall 0) ok ∷ saw allocCall (pos 0) ∷ []) (2 ∷ 16 ∷ 0 ∷ 0 ∷ 9 ∷ []) (2 ∷ 1 ∷ 9 ∷ [])
+made-two = made [] [] (made [] [] begun gave refl) took refl
 
-pub held-now : (held (record { call = allocCall; answer = pos 0 } ∷ []) 0 ≡ true) × (held (record { call = freeCall 0; answer = ok } ∷ record { call = allocCall; answer = pos 0 } ∷ []) 0 ≡ false)
+pub held-now : (held (saw allocCall (pos 0) ∷ []) 0 ≡ true) × (held (saw (freeCall 0) ok ∷ saw allocCall (pos 0) ∷ []) 0 ≡ false)
 held-now = (refl, refl)
 
 -- links that nobody made: block 0 names itself. It goes out once; then the slab is malformed, and all is refused
 abbrev first-call : Reply Slab
 first-call = reply place (led alloc) (2 ∷ 16 ∷ 0 ∷ 0 ∷ []) (1 ∷ 1 ∷ [])
 
-pub once-only : first-call ≡ accept (slab (2 ∷ 16 ∷ 1 ∷ 0 ∷ []) (0 ∷ 1 ∷ [])) (pos 0)
+pub once-only : first-call ≡ accept (slab (2 ∷ 16 ∷ 1 ∷ 0 ∷ []) (0 ∷ 1 ∷ [])) (pos 0) []
 once-only = refl
 
 pub then-refused : (fit (2 ∷ 16 ∷ 1 ∷ 0 ∷ []) (0 ∷ 1 ∷ []) ≡ false) × (reply place (led (free 0)) (2 ∷ 16 ∷ 1 ∷ 0 ∷ []) (0 ∷ 1 ∷ []) ≡ refuse einval)
@@ -70,11 +66,11 @@ then-refused = (refl, refl)
 abbrev asks : List Ask
 asks = allocates false ∷ allocates false ∷ []
 
-pub second-waits : after 1 asks ≡ record { out = 1; waiting = 1 }
+pub second-waits : counts 1 asks ≡ record { out = 1; waiting = 1 }
 second-waits = refl
 
-pub handed-over : after 1 (releases ∷ asks) ≡ record { out = 1; waiting = 0 }
+pub handed-over : counts 1 (releases ∷ asks) ≡ record { out = 1; waiting = 0 }
 handed-over = refl
 
-pub refused-not : after 1 (allocates true ∷ asks) ≡ record { out = 1; waiting = 1 }
+pub refused-not : counts 1 (allocates true ∷ asks) ≡ record { out = 1; waiting = 1 }
 refused-not = refl

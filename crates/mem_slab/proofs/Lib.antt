@@ -1,10 +1,10 @@
 pub mod Memory
 pub mod Answers
 pub mod New
+pub mod Calls
 pub mod Outs
 pub mod Along
 pub mod Stack
-pub mod Keeping
 pub mod Histories
 pub mod HandOver
 pub mod Upstream

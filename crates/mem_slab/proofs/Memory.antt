@@ -1,6 +1,6 @@
 -- A slab in memory: what its being fit says, and what a call leaves. Assumes nothing.
-use mathlib.Core.Path.{_≡_, refl, sym, ap, subst, _∙_}
-use mathlib.Core.Bool.{Bool, true, false, cond, not, _&&_}
+use mathlib.Core.Path.{_≡_, refl, sym, _∙_}
+use mathlib.Core.Bool.{Bool, true, false, cond, not, _&&_, and-eq-true-iff}
 use mathlib.Core.List.{List}
 use Prim.Native.Nat.{ℕ, _≤_, _<_}
 use native.Mathlib.Omega.{arith}
@@ -11,18 +11,14 @@ use lib.Seq.{length-take-le, getD-take}
 use borrow.Author.Tests.{lt-ltb, le-leb, ltb-true, leb-true, not-true, not-false}
 use Rattle.seq.proofs.Order.{clash}
 use Rattle.thread.specs.Code.{einval}
-use Rattle.store.specs.Store.{Reply, refuse, answer, reply, After, Did}
+use Rattle.store.specs.Store.{Reply, refuse, Did}
+use Rattle.store.proofs.Laws.{did}
 use Rattle.mem_slab.specs.Slab.{Slab, sound, leads, free}
 use Rattle.mem_slab.specs.Post.{slab, place, fit, led, sees}
 
 -- tests
 pub both : (x y : Bool) → (x && y) ≡ true → (x ≡ true) × (y ≡ true)
-both true y h = (refl, h)
-both false y h = clash (sym h)
-
-pub refuted : (b : Bool) → (b ≡ true → ⊥) → b ≡ false
-refuted true h = absurd (h refl)
-refuted false h = refl
+both x y = and-eq-true-iff x y .0
 
 -- the numbers of a slab
 pub record Sound (h l : List ℕ) : Type 0 where
@@ -115,32 +111,20 @@ module _ (h l : List ℕ) where
   pub tested-no : (b : Bool) → b ≡ fit h l → not b ≡ true → fit h l ≡ false
   tested-no b e k = sym e ∙ not-true b k
 
-  module _ {A : Type 0} (x y : A) where
-    pub guarded : Fit h l → cond (place .formed h l) (cond (leads (slab h l)) x y) y ≡ x
-    guarded f = rw (sound-is h l (f .sound), leads-is h l (f .sound) (f .free, f .named))
-
-    pub unguarded : fit h l ≡ false → cond (place .formed h l) (cond (leads (slab h l)) x y) y ≡ y
-    unguarded k = go (place .formed h l) (leads (slab h l)) k
-      where
-        go : (b c : Bool) → (b && c) ≡ false → cond b (cond c x y) y ≡ y
-        go false c z = refl
-        go true false z = refl
-        go true true z = clash z
+  unguarded : {A : Type 0} (x y : A) → fit h l ≡ false → cond (place .formed h l) (cond (leads (slab h l)) x y) y ≡ y
+  unguarded x y k = go (place .formed h l) (leads (slab h l)) k
+    where
+      go : (b c : Bool) → (b && c) ≡ false → cond b (cond c x y) y ≡ y
+      go false c z = refl
+      go true false z = refl
+      go true true z = clash z
 
   -- so the reply and the number that is seen
-  pub reply-fit : (f : Slab → Reply Slab) → Fit h l → reply place (led f) h l ≡ f (slab h l)
-  reply-fit f = guarded (f (slab h l)) (refuse einval)
-
-  pub reply-unfit : (f : Slab → Reply Slab) → fit h l ≡ false → reply place (led f) h l ≡ refuse einval
-  reply-unfit f = unguarded (f (slab h l)) (refuse einval)
-
   pub unfit : (f : Slab → Reply Slab) → fit h l ≡ false → Did place (led f) h l einval h l
-  unfit f k =
-      let e = reply-unfit f k in
-      record { code = sym (ap answer e); after = subst (λ y. After place y h l h l) (sym e) (refl, refl) }
+  unfit f k = did place (led f) h l (refuse einval) h l (unguarded (f (slab h l)) (refuse einval) k) (refl, refl)
 
   pub seen : (f : Slab → ℤ) → Fit h l → f (slab h l) ≡ sees f h l
-  seen f k = sym (guarded (f (slab h l)) einval k)
+  seen f k = rw (sound-is h l (k .sound), leads-is h l (k .sound) (k .free, k .named))
 
   pub unseen : (f : Slab → ℤ) → fit h l ≡ false → einval ≡ sees f h l
   unseen f k = sym (unguarded (f (slab h l)) einval k)

@@ -7,12 +7,12 @@ use native.Mathlib.Omega.{arith}
 use lib.ListN.{length, getD, take, drop, set, length-append, length-drop}
 use lib.Seq.{drop-cons, set-at, take-at, drop-at}
 use borrow.Author.Tests.{lt-ltb, le-ltb, le-leb, lt-leb}
-use Rattle.seq.proofs.Words.{by-words}
+use Rattle.seq.proofs.Words.{spelled, spell}
 use Rattle.thread.specs.Code.{ok, einval}
-use Rattle.store.specs.Store.{Becomes, Filled}
+use Rattle.store.specs.Store.{Filled}
 use Rattle.store.proofs.Laws.{start-short, start-bad, start-made}
-use Rattle.mem_slab.specs.Slab.{upFrom, newLinks, fresh}
-use Rattle.mem_slab.specs.Post.{place, Starts}
+use Rattle.mem_slab.specs.Slab.{upFrom, newLinks}
+use Rattle.mem_slab.specs.Post.{Starts}
 use Rattle.mem_slab.proofs.Memory.{sound-is}
 
 pub length-up : (k n : ℕ) → length (upFrom k n) ≡ n
@@ -67,17 +67,12 @@ module _ (z n : ℕ) (h l : List ℕ) where
 
     pub starts : 0 < z → 0 < n → n ≤ length l → (l' : List ℕ) → Filled (newLinks n) l l' → Starts z n h l ok (set (set (set (set h 0 n) 1 z) 2 0) 3 0) l'
     starts a b c l' f =
-        start-made w (rw (lt-ltb 0 z a, lt-ltb 0 n b) (le-leb n (length l) c)) (by-words 4 (λ h. Becomes place (fresh z n) h l (set (set (set (set h 0 n) 1 z) 2 0) 3 0) l')
-        (λ x y u v t. go t (filled (newLinks n) l l' n (length-new n b) c f)) h w)
-      where
-        go : {x y u v : ℕ} (t : List ℕ) → (length l' ≡ length l) × (take n l' ≡ newLinks n) × (drop n l' ≡ drop n l)
-            → Becomes place (fresh z n) (x ∷ y ∷ u ∷ v ∷ t) l (n ∷ z ∷ 0 ∷ 0 ∷ t) l'
-        go t q =
-            record {
-              formed = sound-is (n ∷ z ∷ 0 ∷ 0 ∷ t) l'
-                  (record { words = omega arith; blocks = b; sized = a; few = omega arith; inside = b; room = omega (arith, q .0) });
-              object = rw (q .1);
-              beside = refl;
-              rest = q .2;
-              long = (refl, q .0);
-            }
+        let q = filled (newLinks n) l l' n (length-new n b) c f in
+        start-made w (rw (lt-ltb 0 z a, lt-ltb 0 n b) (le-leb n (length l) c)) (rw (spell 4 h w) (record {
+          formed = sound-is (set (set (set (set (spelled 4 h) 0 n) 1 z) 2 0) 3 0) l'
+              (record { words = omega arith; blocks = b; sized = a; few = omega arith; inside = b; room = omega (arith, q .0) });
+          object = rw (q .1);
+          beside = refl;
+          rest = q .2;
+          long = (refl, q .0);
+        }))

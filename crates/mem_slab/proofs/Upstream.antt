@@ -2,28 +2,31 @@
 use mathlib.Core.Path.{_≡_, refl, sym, ap, _∙_}
 use mathlib.Core.Bool.{Bool, true, false, cond, _&&_, and-false}
 use mathlib.Core.Logic.{_⊎_, inl, inr}
-use mathlib.Core.List.{List}
+use mathlib.Core.List.{List, []}
 use Prim.Native.Nat.{ℕ, suc, _+_, _-_, _≤_, _<_}
 use native.Mathlib.Numerals.{add-one}
 use native.Mathlib.Omega.{arith}
 use lib.Dec.{ltb, leb, eqb}
 use lib.IntN.{ℤ, pos, negsuc}
 use lib.Signed.{mag}
-use lib.ListN.{length, getD, take, set}
+use lib.ListN.{length, getD}
 use lib.Seq.{set-set, set-getD, getD-set-same, length-take-le}
 use borrow.Author.Tests.{lt-ltb, le-ltb, le-leb, lt-leb, ltb-false, eq-eqb, ne-eqb}
 use Rattle.seq.proofs.Order.{clash}
 use Rattle.thread.specs.Code.{ok, einval}
-use Rattle.store.specs.Store.{Reply, refuse, accept, answer, reply, After, Becomes}
-use Rattle.store.proofs.Laws.{no-code, became, answers}
-use Rattle.mem_slab.specs.Slab.{Slab, leads, alloc, free, given}
+use Rattle.store.specs.Store.{Reply, refuse, accept, answer, left, reply, After}
+use Rattle.store.proofs.Laws.{no-code, did-yes, becomes-back}
+use Rattle.store.proofs.Histories.{holds-after}
+use Rattle.store.proofs.Determined.{did-same}
+use Rattle.mem_slab.specs.Slab.{Slab, isOut, leads, alloc, free, given}
 use Rattle.mem_slab.specs.Post.{CountsUsed, CountsFree, CountsBlocks, GetsBlockSize, SaysFull, SaysEmpty, slab, place, fit, led, Allocs, Frees, sees, isFull, isEmpty, Starts, AllocDecided, FreeDecided}
-use Rattle.mem_slab.specs.Blocks.{Call, allocCall, freeCall, meant, Calls, out}
-use Rattle.mem_slab.specs.Upstream.{Inv, Init, Keeps, Alloc, Free, NumUsedGet, NumFreeGet, NumBlocksGet, BlockSizeGet, IsFull, IsEmpty, AllocDecide, FreeDecide, Inductive, AllocFree, AllocFreeMemory, FreeAlloc, Conserves, FullRejects, AllFreeRejects}
-use Rattle.mem_slab.proofs.Memory.{both, Fit, fit-is, is-fit, is-sound, next-link, reply-unfit, unseen, seen}
-use Rattle.mem_slab.proofs.Outs.{ended, alloc-cases, free-cases}
-use Rattle.mem_slab.proofs.Answers.{full, not-full, empty, not-empty}
-use Rattle.mem_slab.proofs.HandOver.{same-header, same-links}
+use Rattle.mem_slab.specs.Blocks.{Call, allocCall, freeCall, meant, out}
+use Rattle.mem_slab.specs.Upstream.{Inv, Init, Alloc, Free, NumUsedGet, NumFreeGet, NumBlocksGet, BlockSizeGet, IsFull, IsEmpty, AllocDecide, FreeDecide, Inductive, AllocFree, AllocFreeMemory, FreeAlloc, Conserves, FullRejects, AllFreeRejects}
+use Rattle.mem_slab.proofs.Memory.{both, Sound, sound-is, is-sound, Fit, leads-is, is-fit, unfit, unseen, seen}
+use Rattle.mem_slab.proofs.Calls.{not-zero, Does, gives, spent, takes, strange, unused, astray, which}
+use Rattle.mem_slab.proofs.Outs.{by-call}
+use Rattle.mem_slab.proofs.Answers.{not-out, full, not-full, empty, not-empty}
+use Rattle.mem_slab.proofs.Determined.{faithful}
 
 -- decide functions
 module _ (u n m : ℕ) (w : Bool) (r : ℤ) (m' : ℕ) (d : AllocDecided u n w m r m') where
@@ -87,66 +90,67 @@ slab-init z n h l r h' l' w k s = go (ltb 0 z) (ltb 0 n) refl refl
         }
 
 -- alloc and free
+alloc-does : {s : Slab} {y : Reply Slab} → Inv s → leads s ≡ true → Does s allocCall y → Alloc s (answer y) (left y s)
+alloc-does {s} i e (gives u p q) =
+    record {
+      keeps = record { inv = record { blocks = i .blocks; sized = i .sized; few = u }; blocks = refl; size = refl };
+      gives = λ z. refl;
+      more = λ z. sym (add-one (s .used));
+      refuses = λ z. absurd (omega arith);
+      kept = λ z. absurd (omega arith);
+    }
+alloc-does i e (spent u) =
+    record {
+      keeps = record { inv = i; blocks = refl; size = refl };
+      gives = λ z. absurd (omega arith);
+      more = λ z. absurd (omega arith);
+      refuses = λ z. refl;
+      kept = λ z. refl;
+    }
+alloc-does i e (astray f) = clash (sym e ∙ f)
+
+free-does : {s : Slab} {b : ℕ} {y : Reply Slab} → Inv s → leads s ≡ true → (0 < s .used → isOut s b ≡ true) → Does s (freeCall b) y
+    → Free s (answer y) (left y s)
+free-does {s} {b} i e k w = go w
+  where
+    none : (0 < s .used → ⊥) → Free s einval s
+    none never =
+        record {
+          keeps = record { inv = i; blocks = refl; size = refl };
+          frees = λ z. absurd (never z);
+          fewer = λ z. absurd (never z);
+          refuses = λ z. refl;
+          kept = λ z. refl;
+        }
+
+    go : {y : Reply Slab} → Does s (freeCall b) y → Free s (answer y) (left y s)
+    go (takes o u) =
+        record {
+          keeps = record { inv = record { blocks = i .blocks; sized = i .sized; few = omega (arith, i .few) }; blocks = refl; size = refl };
+          frees = λ z. refl;
+          fewer = λ z. refl;
+          refuses = λ z. absurd (omega arith);
+          kept = λ z. absurd (omega arith);
+        }
+    go (strange o) = none (λ z. clash (sym (k z) ∙ o))
+    go (unused o u) = none (λ z. omega arith)
+    go (astray f) = clash (sym e ∙ f)
+
 module _ (h l : List ℕ) (r : ℤ) (h' l' : List ℕ) where
-  keeps-same : Inv (slab h l) → (h' ≡ h) × (l' ≡ l) → Keeps (slab h l) (slab h' l')
-  keeps-same i e = rw (e .0, e .1) (record { inv = i; blocks = refl; size = refl })
-
-  keeps-made : {s : Slab} → Becomes place s h l h' l' → s .blocks ≡ getD h 0 0 → s .size ≡ getD h 1 0 → Keeps (slab h l) (slab h' l')
-  keeps-made m e f =
-      record { inv = formed-inv h' l' (m .formed); blocks = ap (λ (t : Slab). t .blocks) (m .object) ∙ e; size = ap (λ (t : Slab). t .size) (m .object) ∙ f }
-
   module _ (f : Fit h l) where
-    inv-now : Inv (slab h l)
-    inv-now = record { blocks = f .sound .blocks; sized = f .sound .sized; few = f .sound .few }
+    formed : place .formed h l ≡ true
+    formed = sound-is h l (f .sound)
 
-    unfit-not : {P : Type 0} → fit h l ≡ false → P
-    unfit-not e = clash (sym (fit-is h l f) ∙ e)
+    leading : leads (slab h l) ≡ true
+    leading = leads-is h l (f .sound) (f .free, f .named)
 
     pub slab-alloc : Allocs h l r h' l' → Alloc (slab h l) r (slab h' l')
-    slab-alloc d =
-        alloc-cases h l (λ y. (r ≡ answer y) × After place y h l h' l' → Alloc (slab h l) r (slab h' l')) (λ e. unfit-not e)
-        (λ g u a.
-        record {
-          keeps = keeps-same inv-now (a .1);
-          gives = λ e. absurd (omega arith);
-          more = λ e. absurd (omega arith);
-          refuses = λ e. a .0;
-          kept = λ e. rw (a .1 .0);
-        })
-        (λ g u a.
-        record {
-          keeps = keeps-made (a .1) refl refl;
-          gives = λ e. a .0;
-          more = λ e. ap (λ (t : Slab). t .used) (a .1 .object) ∙ sym (add-one (getD h 2 0));
-          refuses = λ e. absurd (omega arith);
-          kept = λ e. absurd (omega arith);
-        })
-        (d .code, d .after)
+    slab-alloc d = holds-after place (led alloc) h l (Alloc (slab h l)) formed d (alloc-does (formed-inv h l formed) leading (which (slab h l) allocCall))
 
     -- upstream is not told which block: one that is out, if any is
     pub slab-free : (b : ℕ) → (0 < getD h 2 0 → out h l b ≡ true) → Frees b h l r h' l' → Free (slab h l) r (slab h' l')
     slab-free b k d =
-        free-cases b h l (λ y. (r ≡ answer y) × After place y h l h' l' → Free (slab h l) r (slab h' l')) (λ e. unfit-not e)
-        (λ g o a. none (λ e. clash (sym (k e) ∙ o)) a) (λ g o e a. none (λ p. omega arith) a)
-        (λ g o e a.
-        record {
-          keeps = keeps-made (a .1) refl refl;
-          frees = λ p. a .0;
-          fewer = λ p. ap (λ (t : Slab). t .used) (a .1 .object);
-          refuses = λ p. absurd (omega arith);
-          kept = λ p. absurd (omega arith);
-        })
-        (d .code, d .after)
-      where
-        none : (0 < getD h 2 0 → ⊥) → (r ≡ einval) × ((h' ≡ h) × (l' ≡ l)) → Free (slab h l) r (slab h' l')
-        none never a =
-            record {
-              keeps = keeps-same inv-now (a .1);
-              frees = λ p. absurd (never p);
-              fewer = λ p. absurd (never p);
-              refuses = λ p. a .0;
-              kept = λ p. rw (a .1 .0);
-            }
+        holds-after place (led (free b)) h l (Free (slab h l)) formed d (free-does (formed-inv h l formed) leading k (which (slab h l) (freeCall b)))
 
     -- what is asked of a slab
     gets : (g : Slab → ℤ) → r ≡ sees g h l → r ≡ g (slab h l)
@@ -171,27 +175,22 @@ module _ (h l : List ℕ) (r : ℤ) (h' l' : List ℕ) where
     is-empty d = record { empty = λ e. gets isEmpty d ∙ empty (slab h l) e; other = λ e. gets isEmpty d ∙ not-empty (slab h l) e }
 
   abbrev pub Refused : Type 0
-  Refused = (r ≡ einval) × ((h' ≡ h) × (l' ≡ l))
+  Refused = (r ≡ einval) × (h' ≡ h) × (l' ≡ l)
 
   -- what upstream demands is refused here
   module _ (e : fit h l ≡ false) where
-    call-refuses : (k : Call) → Calls k h l r h' l' → Refused
-    call-refuses k d = ended place (led (meant k)) h l (refuse einval) (reply-unfit h l (meant k) e) d
-
     pub alloc-refuses : Allocs h l r h' l' → Refused
-    alloc-refuses d = call-refuses allocCall d
+    alloc-refuses d = did-same faithful h l (led alloc) d (unfit h l alloc e)
 
     pub free-unfit-refuses : (b : ℕ) → Frees b h l r h' l' → Refused
-    free-unfit-refuses b d = call-refuses (freeCall b) d
+    free-unfit-refuses b d = did-same faithful h l (led (free b)) d (unfit h l (free b) e)
 
     pub get-refuses : (g : Slab → ℤ) → r ≡ sees g h l → r ≡ einval
     get-refuses g d = d ∙ sym (unseen h l g e)
 
   -- and so is the free of a block that is not out, whatever the number of those that are
   pub free-refuses : (b : ℕ) → out h l b ≡ false → Frees b h l r h' l' → Refused
-  free-refuses b o d =
-      free-cases b h l (λ y. (r ≡ answer y) × After place y h l h' l' → Refused) (λ e a. a) (λ g q a. a)
-      (λ g q e a. a) (λ g q e a. clash (sym q ∙ o)) (d .code, d .after)
+  free-refuses b o d = did-same faithful h l (led (free b)) d (not-out b h l (rw o (and-false (fit h l))))
 
 -- upstream's lemmas
 pub invariant-inductive : (h l : List ℕ) (r : ℤ) (h' l' : List ℕ) → Inductive h l r h' l'
@@ -200,12 +199,12 @@ invariant-inductive h l r h' l' =
   where
     go : (k : Call) → Inv (slab h l) → (y : Reply Slab) → After place y h l h' l' → Inv (slab h' l')
     go k i (refuse c) a = rw (a .0, a .1) i
-    go k i (accept s c) a = formed-inv h' l' (a .formed)
+    go k i (accept s c o) a = formed-inv h' l' (a .formed)
 
 pub alloc-free : (u n : ℕ) → u < n → AllocFree u n
 alloc-free u n k =
     let y : suc u - 1 ≡ u = omega arith in
-    record { alloc = λ w. rw (lt-ltb u n k); free = rw (ne-eqb (suc u) 0 (λ e. omega arith), y) }
+    record { alloc = λ w. rw (lt-ltb u n k); free = rw (not-zero u, y) }
 
 pub free-alloc : (u n : ℕ) → 0 < u → u ≤ n → FreeAlloc u n
 free-alloc u n b k =
@@ -231,35 +230,29 @@ pub all-free-rejects-free : (u : ℕ) → u ≡ 0 → AllFreeRejects u
 all-free-rejects-free u e w = rw (eq-eqb u 0 e)
 
 -- a block that goes out and comes back
-module _ (n z u x : ℕ) (k : List ℕ) (few : u < n) (inside : x < n) (long : n ≤ length k) (free-now : 0 < getD k x 0) where
-  unset : set (set k x 0) x (suc (getD k x 0 - 1)) ≡ k
-  unset = let y : suc (getD k x 0 - 1) ≡ getD k x 0 = omega arith in rw (y, set-set) (set-getD k x 0)
-
-  comes-back : leads (given (record { blocks = n; size = z; used = u; next = x; link = k }) (suc u)) ≡ true
-      → led (free x) (given (record { blocks = n; size = z; used = u; next = x; link = k }) (suc u)) ≡ accept (record { blocks = n; size = z; used = u; next = x; link = k }) ok
-  comes-back e =
-      let y : suc u - 1 ≡ u = omega arith in
-      rw (e, lt-ltb x n inside, getD-set-same k x 0 0 (omega arith), ne-eqb (suc u) 0 (λ p. omega arith), y, unset)
+comes-back : (s : Slab) → s .next < s .blocks → s .blocks ≤ length (s .link) → 0 < getD (s .link) (s .next) 0 → leads (given s (suc (s .used))) ≡ true
+    → led (free (s .next)) (given s (suc (s .used))) ≡ accept s ok []
+comes-back s inside long some e =
+    let x = s .next in
+    let k = s .link in
+    let y : suc (s .used) - 1 ≡ s .used = omega arith in
+    let w : suc (getD k x 0 - 1) ≡ getD k x 0 = omega arith in
+    rw (e, lt-ltb x (s .blocks) inside, getD-set-same k x 0 0 (omega arith), not-zero (s .used), y, w, set-set k x 0 (getD k x 0), set-getD k x 0)
 
 pub alloc-free-memory : (h l : List ℕ) → AllocFreeMemory h l
 alloc-free-memory h l b h₁ l₁ h' l' r d t a =
-    alloc-cases h l (λ y. (pos b ≡ answer y) × After place y h l h₁ l₁ → (r ≡ ok) × (h' ≡ h) × (l' ≡ l)) (λ e q. refused-block (q .0))
-    (λ f u q. refused-block (q .0)) (λ f u q. go f u (ap mag (q .0)) (q .1)) (d .code, d .after)
+    by-call allocCall h l (λ y. pos b ≡ answer y → After place y h l h₁ l₁ → (r ≡ ok) × (h' ≡ h) × (l' ≡ l)) (λ e q. no e) (λ s y w e q. go s w e q)
+    (d .code) (d .after)
   where
-    refused-block : {P : Type 0} {n : ℕ} → pos b ≡ negsuc n → P
-    refused-block e = absurd (let y : _≡_ {A = ℕ} 0 1 = cc in omega arith)
+    no : {P : Type 0} {n : ℕ} → pos b ≡ negsuc n → P
+    no e = absurd (let y : _≡_ {A = ℕ} 0 1 = cc in omega arith)
 
-    go : Fit h l → getD h 2 0 < getD h 0 0 → b ≡ getD h 3 0 → Becomes place (given (slab h l) (suc (getD h 2 0))) h l h₁ l₁ → (r ≡ ok) × (h' ≡ h) × (l' ≡ l)
-    go f u e m =
-        let n = getD h 0 0 in
-        let s = f .sound in
-        let v : leads (slab h₁ l₁) ≡ true = both (place .formed h₁ l₁) (leads (slab h₁ l₁)) t .1 in
-        let g : led (free b) (slab h₁ l₁) ≡ accept (slab h l) ok =
-        rw e (ap (led (free (getD h 3 0))) (m .object) ∙ comes-back n (getD h 1 0) (getD h 2 0) (getD h 3 0) (take n l) u (s .inside) (omega (arith, length-take-le n l (s .room))) (rw (next-link h l s) (f .free u)) (sym (ap leads (m .object)) ∙ v)) in
-        let w = became place (led (free b)) h₁ l₁ a (m .formed) g in
-        let i : getD h₁ 0 0 ≡ n = ap (λ (q : Slab). q .blocks) (m .object) in
-        let j : getD h' 0 0 ≡ n = ap (λ (q : Slab). q .blocks) (w .object) in (
-          answers place (led (free b)) h₁ l₁ a (m .formed) ∙ ap answer g,
-          same-header h l h' l' (w .object) (s .words) (w .long .0 ∙ m .long .0) (w .beside ∙ m .beside),
-          same-links h l h' l' (w .object) (rw j at (w .rest) ∙ rw i at (m .rest)),
-        )
+    go : {y : Reply Slab} → Sound h l → Does (slab h l) allocCall y → pos b ≡ answer y → After place y h l h₁ l₁ → (r ≡ ok) × (h' ≡ h) × (l' ≡ l)
+    go s (gives u p q) e m =
+        let v : leads (given (slab h l) (suc (getD h 2 0))) ≡ true = sym (ap leads (m .object)) ∙ both (place .formed h₁ l₁) (leads (slab h₁ l₁)) t .1 in
+        let c = comes-back (slab h l) (s .inside) (omega (arith, length-take-le (getD h 0 0) l (s .room))) p v in
+        let g : led (free b) (slab h₁ l₁) ≡ accept (slab h l) ok [] = rw (ap mag e) (ap (led (free (getD h 3 0))) (m .object) ∙ c) in
+        did-same faithful h₁ l₁ (led (free b)) a
+        (did-yes place (led (free b)) h₁ l₁ (m .formed) g (becomes-back place (sound-is h l s) (ap (λ (z : Slab). z .blocks) (m .object)) m))
+    go s (spent u) e q = no e
+    go s (astray f) e q = no e

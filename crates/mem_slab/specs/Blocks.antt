@@ -7,7 +7,7 @@ use lib.Dec.{eqb}
 use lib.IntN.{ℤ, pos, negsuc}
 use lib.ListN.{getD}
 use Rattle.store.specs.Store.{Reply, Did}
-use Rattle.store.specs.History.{Event, Run}
+use Rattle.store.specs.History.{Step, Made}
 use Rattle.mem_slab.specs.Slab.{Slab, isOut, alloc, free}
 use Rattle.mem_slab.specs.Post.{slab, place, led}
 
@@ -29,9 +29,9 @@ does k = led (meant k)
 abbrev pub Calls : Call → List ℕ → List ℕ → ℤ → List ℕ → List ℕ → Type 0
 Calls k = Did place (does k)
 
--- the events xs, each a call and its answer, the last in front, from the memory h₀ and l₀ to the memory h and l
-abbrev pub Runs : List ℕ → List ℕ → List (Event Call) → List ℕ → List ℕ → Type 0
-Runs = Run place does
+-- the steps xs, the last in front, from the memory h₀ and l₀ to the memory h and l
+abbrev pub Runs : List ℕ → List ℕ → List (Step Call) → List ℕ → List ℕ → Type 0
+Runs = Made place does
 
 -- what a call and its answer change of whether somebody has the block b
 abbrev pub changed : Call → ℤ → ℕ → Bool → Bool
@@ -41,7 +41,7 @@ changed (freeCall i) (pos n) b was = cond (eqb i b) false was
 changed (freeCall i) (negsuc n) b was = was
 
 -- somebody has it: from an alloc that answers it to a free of it that answers no refusal. Nothing but calls and answers is looked at
-abbrev pub held : List (Event Call) → ℕ → Bool
+abbrev pub held : List (Step Call) → ℕ → Bool
 held [] b = false
 held (x ∷ xs) b = changed (x .call) (x .answer) b (held xs b)
 
@@ -75,4 +75,4 @@ Outcome (freeCall b) (negsuc n) h l h' l' = (h' ≡ h) × (l' ≡ l)
 -- no two callers have one block: after any calls, alloc never answers a block that is held
 abbrev pub NoTwo : List ℕ → List ℕ → Type 0
 NoTwo h₀ l₀ =
-    (xs : List (Event Call)) (h l h' l' : List ℕ) (b : ℕ) → Runs h₀ l₀ xs h l → Calls allocCall h l (pos b) h' l' → held xs b ≡ false
+    (xs : List (Step Call)) (h l h' l' : List ℕ) (b : ℕ) → Runs h₀ l₀ xs h l → Calls allocCall h l (pos b) h' l' → held xs b ≡ false

@@ -7,7 +7,7 @@ use lib.Dec.{ltb, eqb}
 use lib.IntN.{ℤ, pos, negsuc}
 use lib.ListN.{getD, drop}
 use Rattle.thread.specs.Code.{ok, enomem, einval}
-use Rattle.store.specs.History.{Event}
+use Rattle.store.specs.History.{Step}
 use Rattle.mem_slab.specs.Slab.{Slab, isOut, upFrom}
 use Rattle.mem_slab.specs.Post.{slab, Starts}
 use Rattle.mem_slab.specs.Blocks.{Call, allocCall, freeCall, Runs, held}
@@ -49,31 +49,31 @@ restocked allocCall (negsuc i) f = f
 restocked (freeCall b) (pos i) f = b ∷ f
 restocked (freeCall b) (negsuc i) f = f
 
-abbrev pub stock : ℕ → List (Event Call) → List ℕ
+abbrev pub stock : ℕ → List (Step Call) → List ℕ
 stock n [] = upFrom 0 n
 stock n (x ∷ xs) = restocked (x .call) (x .answer) (stock n xs)
 
--- what a call is told after the events xs: an alloc the first of the stock, or -12; a free 0 if the block is held, else -22
-abbrev pub Told : ℕ → Call → ℤ → List (Event Call) → Type 0
+-- what a call is told after the steps xs: an alloc the first of the stock, or -12; a free 0 if the block is held, else -22
+abbrev pub Told : ℕ → Call → ℤ → List (Step Call) → Type 0
 Told n allocCall a xs = a ≡ top (stock n xs)
 Told n (freeCall b) a xs = a ≡ cond (held xs b) ok einval
 
-abbrev pub AllTold : ℕ → List (Event Call) → Type 0
+abbrev pub AllTold : ℕ → List (Step Call) → Type 0
 AllTold n [] = Unit {0}
 AllTold n (x ∷ xs) = Told n (x .call) (x .answer) xs × AllTold n xs
 
--- n blocks of the size z, after the events xs, the last in front; h and l is the memory now
-pub record Promise (z n : ℕ) (xs : List (Event Call)) (h l : List ℕ) : Type 0 where
-  pub blocks : getD h 0 0 ≡ n
-  pub size : getD h 1 0 ≡ z
+-- n blocks of the size z, after the steps xs, the last in front; the slab is s now
+pub record Promise (z n : ℕ) (xs : List (Step Call)) (s : Slab) : Type 0 where
+  pub blocks : s .blocks ≡ n
+  pub size : s .size ≡ z
   -- each call was told what it should be: last freed, first given
   pub told : AllTold n xs
   -- the free list is the stock. A block that nobody holds stands there once, and nothing else does
-  pub list : freeList (slab h l) ≡ stock n xs
+  pub list : freeList s ≡ stock n xs
   pub once : (b : ℕ) → count b (stock n xs) ≡ cond (ltb b n && not (held xs b)) 1 0
   -- a block is out exactly if somebody holds it, and as many are out as are held
-  pub out : (b : ℕ) → isOut (slab h l) b ≡ held xs b
-  pub used : getD h 2 0 ≡ number (held xs) n
+  pub out : (b : ℕ) → isOut s b ≡ held xs b
+  pub used : s .used ≡ number (held xs) n
   -- there is none exactly if all blocks are held
   pub all-held : stock n xs ≡ [] → (b : ℕ) → b < n → held xs b ≡ true
   pub some-free : (b : ℕ) → b < n → held xs b ≡ false → stock n xs ≡ [] → ⊥
@@ -81,4 +81,4 @@ pub record Promise (z n : ℕ) (xs : List (Event Call)) (h l : List ℕ) : Type 
 -- from any memory in which init made a slab, h₀ and l₀
 abbrev pub Always : ℕ → ℕ → Type 0
 Always z n =
-    (h l h₀ l₀ : List ℕ) → Starts z n h l ok h₀ l₀ → (xs : List (Event Call)) (h' l' : List ℕ) → Runs h₀ l₀ xs h' l' → Promise z n xs h' l'
+    (h l h₀ l₀ : List ℕ) → Starts z n h l ok h₀ l₀ → (xs : List (Step Call)) (h' l' : List ℕ) → Runs h₀ l₀ xs h' l' → Promise z n xs (slab h' l')

@@ -42,11 +42,11 @@ woke = pos 1
 
 -- how many are out after an allocation: one more, if a block is free
 abbrev pub allocs : ℕ → ℕ → Bool → Reply ℕ
-allocs used blocks noWait = cond (ltb used blocks) (accept (suc used) ok) (cond noWait (refuse enomem) (accept used waits))
+allocs used blocks noWait = cond (ltb used blocks) (accept (suc used) ok []) (cond noWait (refuse enomem) (accept used waits []))
 
 -- and after a free: one fewer; as many, if somebody waits, who has the block then
 abbrev pub frees : ℕ → Bool → Reply ℕ
-frees used waiter = cond (eqb used 0) (refuse einval) (cond waiter (accept used woke) (accept (used - 1) ok))
+frees used waiter = cond (eqb used 0) (refuse einval) (cond waiter (accept used woke []) (accept (used - 1) ok []))
 
 -- the next block goes out, and the one that it names is next
 abbrev pub given : Slab → ℕ → Slab
@@ -61,7 +61,7 @@ returned s b used =
 -- the answer a, unless it is a refusal
 abbrev pub telling : {S : Type 0} → ℤ → Reply S → Reply S
 telling a (refuse r) = refuse r
-telling a (accept s r) = accept s a
+telling a (accept s r o) = accept s a o
 
 -- the answer is the block
 abbrev pub alloc : Slab → Reply Slab

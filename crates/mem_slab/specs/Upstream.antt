@@ -3,7 +3,7 @@
 use mathlib.Core.Path.{_≡_}
 use mathlib.Core.Bool.{Bool, true, false}
 use mathlib.Core.Logic.{_⊎_}
-use mathlib.Core.List.{List}
+use mathlib.Core.List.{List, []}
 use Prim.Native.Nat.{ℕ, suc, _+_, _-_, _≤_, _<_}
 use lib.IntN.{ℤ, pos}
 use Rattle.thread.specs.Code.{ok, enomem, einval}
@@ -130,8 +130,8 @@ pub record Inductive (h l : List ℕ) (r : ℤ) (h' l' : List ℕ) : Type 0 wher
 
 -- lemma_alloc_free_roundtrip: after_free == num_used
 pub record AllocFree (used blocks : ℕ) : Type 0 where
-  pub alloc : (noWait : Bool) → allocs used blocks noWait ≡ accept (suc used) ok
-  pub free : frees (suc used) false ≡ accept used ok
+  pub alloc : (noWait : Bool) → allocs used blocks noWait ≡ accept (suc used) ok []
+  pub free : frees (suc used) false ≡ accept used ok []
 
 -- in memory: a block that is allocated and freed again leaves each word as it was
 abbrev pub AllocFreeMemory : List ℕ → List ℕ → Type 0
@@ -140,8 +140,8 @@ AllocFreeMemory h l =
 
 -- lemma_free_alloc_roundtrip: after_alloc == num_used. In memory: HandOver
 pub record FreeAlloc (used blocks : ℕ) : Type 0 where
-  pub free : frees used false ≡ accept (used - 1) ok
-  pub alloc : (noWait : Bool) → allocs (used - 1) blocks noWait ≡ accept used ok
+  pub free : frees used false ≡ accept (used - 1) ok []
+  pub alloc : (noWait : Bool) → allocs (used - 1) blocks noWait ≡ accept used ok []
 
 -- lemma_conservation: (num_blocks - num_used) + num_used == num_blocks, of the answers
 abbrev pub Conserves : List ℕ → List ℕ → Type 0

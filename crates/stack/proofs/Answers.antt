@@ -1,7 +1,7 @@
 -- How each answer of a function meets the stack's definition. Assumes nothing.
 use mathlib.Core.Path.{_≡_, refl, sym, ap, subst}
 use mathlib.Core.Bool.{true}
-use mathlib.Core.List.{List}
+use mathlib.Core.List.{List, [], _∷_}
 use Prim.Native.Nat.{ℕ, suc, _-_, _≤_, _<_}
 use native.Mathlib.Nat.{sub-zero}
 use native.Mathlib.Omega.{arith}
@@ -12,10 +12,10 @@ use borrow.Author.Tests.{lt-ltb, le-ltb, le-leb, lt-leb, eq-eqb, ne-eqb}
 use Rattle.seq.specs.List.{back}
 use Rattle.seq.proofs.Back.{back-length}
 use Rattle.thread.specs.Code.{ok, enomem, ebusy, einval}
-use Rattle.store.specs.Store.{accept, Becomes, Did, looks, handed, first}
-use Rattle.store.proofs.Laws.{did-no, did-yes, start-short, start-bad, start-made}
-use Rattle.stack.specs.Stack.{Stack, push, pop, popped, used, free, full, empty}
-use Rattle.stack.specs.Post.{Starts, Pushes, place}
+use Rattle.store.specs.Store.{accept, Becomes, looks}
+use Rattle.store.proofs.Laws.{did-no, did-yes, hands-no, hands-yes, start-short, start-bad, start-made}
+use Rattle.stack.specs.Stack.{Stack, push, pop, used, free, full, empty}
+use Rattle.stack.specs.Post.{Starts, Pushes, Pops, place}
 use Rattle.stack.proofs.Memory.{Sound, is-sound, becomes, counts, one-more, one-fewer}
 
 -- a new stack
@@ -42,28 +42,20 @@ module _ (h w : List ℕ) where
 
     pub pushed : (x : ℕ) → getD h 1 0 < getD h 0 0 → Pushes x h w ok (set h 1 (suc (getD h 1 0))) (set w (getD h 1 0) x)
     pushed x b =
-        did-yes place (push x) h w s (rw (back-length w (getD h 1 0), lt-ltb (getD h 1 0) (getD h 0 0) b))
+        did-yes place (push x) h w {l = []} s (rw (back-length w (getD h 1 0), lt-ltb (getD h 1 0) (getD h 0 0) b))
         (subst (λ (y : Stack). Becomes place y h w (set h 1 (suc (getD h 1 0))) (set w (getD h 1 0) x))
         (one-more (getD h 0 0) (getD h 1 0) w b (sound .housed) x)
         (counts h w (set w (getD h 1 0) x) (suc (getD h 1 0)) sound b (length-set w (getD h 1 0) x) (drop-set-lt (getD h 0 0) w (getD h 1 0) x b)))
 
-    pub pop-none : getD h 1 0 ≡ 0 → Did place pop h w ebusy h w
-    pop-none e = did-no place pop h w s (rw e)
+    pub pop-none : (x : ℕ) → getD h 1 0 ≡ 0 → Pops h w x ebusy h x
+    pop-none x e = hands-no place pop h w x s (rw e)
 
-    pub hands-nothing : getD h 1 0 ≡ 0 → (x : ℕ) → x ≡ first x (handed place popped h w)
-    hands-nothing e x = rw (s, e)
-
-    module _ (n : ℕ) (e : getD h 1 0 ≡ suc n) where
-      below : n < getD h 0 0
-      below = omega (arith, sound)
-
-      pub popped-one : Did place pop h w ok (set h 1 n) w
-      popped-one =
-          did-yes place pop h w s (rw (e, lt-ltb 0 (length (back w (suc n))) (omega (arith, back-length w (suc n)))) (ap (λ (y : Stack). accept y ok) (sym (one-fewer (getD h 0 0) n w below (sound .housed)))))
-          (counts h w w n sound (omega (arith, below)) refl refl)
-
-      pub hands : (x : ℕ) → getD w n 0 ≡ first x (handed place popped h w)
-      hands x = rw (s, e)
+    pub popped : (x n : ℕ) → getD h 1 0 ≡ suc n → Pops h w x ok (set h 1 n) (getD w n 0)
+    popped x n e =
+        let b : n < getD h 0 0 = omega (arith, sound) in
+        hands-yes place pop h w x {l = getD w n 0 ∷ []} s (rw (e, lt-ltb 0 (length (back w (suc n))) (omega (arith, back-length w (suc n))))
+        (ap (λ (y : Stack). accept y ok (getD w n 0 ∷ [])) (sym (one-fewer (getD h 0 0) n w b (sound .housed)))))
+        (counts h w w n sound (omega arith) refl refl)
 
     -- what it shows
     pub see-used : pos (getD h 1 0) ≡ looks place used h w

@@ -16,23 +16,20 @@ abbrev pub mk : ℕ → List ℕ → List ℕ → Stack
 mk c l p = record { capacity = c; held = l; spare = p }
 
 module _ (c : ℕ) (l p : List ℕ) where
-  pub push-some : (x : ℕ) → length l < c → push x (mk c l p) ≡ accept (mk c (x ∷ l) (drop 1 p)) ok
+  pub push-some : (x : ℕ) → length l < c → push x (mk c l p) ≡ accept (mk c (x ∷ l) (drop 1 p)) ok []
   push-some x b = rw (lt-ltb (length l) c b)
 
   pub push-none : (x : ℕ) → c ≤ length l → push x (mk c l p) ≡ refuse enomem
   push-none x b = rw (le-ltb (length l) c b)
 
-  pub pop-some : (y : ℕ) → pop (mk c (y ∷ l) p) ≡ accept (mk c l (y ∷ p)) ok
+  pub pop-some : (y : ℕ) → pop (mk c (y ∷ l) p) ≡ accept (mk c l (y ∷ p)) ok (y ∷ [])
   pop-some y = rw (lt-ltb 0 (length (y ∷ l)) (omega arith))
-
-pub pop-none : (c : ℕ) (p : List ℕ) → pop (mk c [] p) ≡ refuse ebusy
-pop-none c p = refl
 
 -- the call, the reply, and what is held then
 pub data Does (c : ℕ) : List ℕ → List ℕ → Call → Reply Stack → Type 0 where
-  stores : {l p : List ℕ} {x : ℕ} → length l < c → Does c l p (pushing x) (accept (mk c (x ∷ l) (drop 1 p)) ok)
+  stores : {l p : List ℕ} {x : ℕ} → length l < c → Does c l p (pushing x) (accept (mk c (x ∷ l) (drop 1 p)) ok [])
   no-room : {l p : List ℕ} {x : ℕ} → c ≤ length l → Does c l p (pushing x) (refuse enomem)
-  takes : {l p : List ℕ} {y : ℕ} → Does c (y ∷ l) p popping (accept (mk c l (y ∷ p)) ok)
+  takes : {l p : List ℕ} {y : ℕ} → Does c (y ∷ l) p popping (accept (mk c l (y ∷ p)) ok (y ∷ []))
   nothing : {p : List ℕ} → Does c [] p popping (refuse ebusy)
 
 pub which : (c : ℕ) (l p : List ℕ) (k : Call) → Does c l p k (does k (mk c l p))

@@ -28,7 +28,7 @@ module _ (c : ℕ) (l p : List ℕ) where
   push-pop-roundtrip x b =
       record {
         count = rw (lt-ltb (length l) c b, lt-ltb 0 (suc (length l)) (omega arith)) (omega arith);
-        word = rw (push-some c l p x b);
+        word = rw (push-some c l p x b, pop-some c l (drop 1 p) x);
         held = rw (push-some c l p x b, pop-some c l (drop 1 p) x);
       }
 

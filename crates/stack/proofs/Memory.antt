@@ -1,6 +1,6 @@
 -- A stack in memory: when it is as it should be, and what a store to the header or to the words makes of it. Assumes nothing.
-use mathlib.Core.Path.{_≡_, refl, sym}
-use mathlib.Core.Bool.{Bool, true, false, cond}
+use mathlib.Core.Path.{_≡_, refl}
+use mathlib.Core.Bool.{true, false}
 use mathlib.Core.List.{List, _∷_, _++_}
 use Prim.Native.Nat.{ℕ, suc, _-_, _≤_, _<_}
 use native.Mathlib.Omega.{arith}
@@ -9,9 +9,9 @@ use lib.ListN.{length, getD, set, take, drop}
 use lib.Seq.{drop-cons, set-getD, getD-set-same, drop-set-lt}
 use borrow.Author.Tests.{ltb-true, leb-true, lt-ltb, le-leb}
 use Rattle.seq.proofs.Words.{by-words}
-use Rattle.seq.proofs.Order.{clash}
 use Rattle.seq.proofs.Back.{back-set}
 use Rattle.store.specs.Store.{Becomes}
+use Rattle.store.proofs.Laws.{both-true, refuted}
 use Rattle.stack.specs.Stack.{may}
 use Rattle.stack.specs.Post.{stackOf, place}
 
@@ -23,36 +23,22 @@ pub record Sound (h w : List ℕ) : Type 0 where
   pub housed : getD h 0 0 ≤ length w
 
 pub is-sound : (h w : List ℕ) → place .formed h w ≡ true → Sound h w
-is-sound h w = go (leb 2 (length h)) (ltb 0 (getD h 0 0)) (leb (getD h 1 0) (getD h 0 0)) (leb (getD h 0 0) (length w)) refl refl refl refl
-  where
-    go : (a b c d : Bool) → leb 2 (length h) ≡ a → ltb 0 (getD h 0 0) ≡ b → leb (getD h 1 0) (getD h 0 0) ≡ c → leb (getD h 0 0) (length w) ≡ d
-        → cond a (cond b (cond c d false) false) false ≡ true → Sound h w
-    go true true true true e f g k z =
-        record { words = leb-true _ _ e; some-room = ltb-true _ _ f; within = leb-true _ _ g; housed = leb-true _ _ k }
-    go true true true false e f g k z = clash (sym z)
-    go true true false d e f g k z = clash (sym z)
-    go true false c d e f g k z = clash (sym z)
-    go false b c d e f g k z = clash (sym z)
+is-sound h w e =
+    let a = both-true (leb 2 (length h)) _ e in
+    let b = both-true (ltb 0 (getD h 0 0)) _ (a .1) in
+    let c = both-true (leb (getD h 1 0) (getD h 0 0)) _ (b .1) in
+    record { words = leb-true _ _ (a .0); some-room = ltb-true _ _ (b .0); within = leb-true _ _ (c .0); housed = leb-true _ _ (c .1) }
 
 pub formed : (h w : List ℕ) → Sound h w → place .formed h w ≡ true
 formed h w s =
     rw (le-leb 2 (length h) (s .words), lt-ltb 0 (getD h 0 0) (s .some-room), le-leb (getD h 1 0) (getD h 0 0) (s .within), le-leb (getD h 0 0) (length w) (s .housed))
 
 pub malformed : (h w : List ℕ) → (Sound h w → ⊥) → place .formed h w ≡ false
-malformed h w n = go (place .formed h w) refl
-  where
-    go : (a : Bool) → place .formed h w ≡ a → a ≡ false
-    go true e = absurd (n (is-sound h w e))
-    go false e = refl
+malformed h w n = refuted (λ e. n (is-sound h w e))
 
 -- what a stack that there can be shows
 pub may-is : (c : ℕ) (w : List ℕ) → may c w ≡ true → (0 < c) × (c ≤ length w)
-may-is c w = go (ltb 0 c) (leb c (length w)) refl refl
-  where
-    go : (a b : Bool) → ltb 0 c ≡ a → leb c (length w) ≡ b → cond a b false ≡ true → (0 < c) × (c ≤ length w)
-    go true true e f z = (ltb-true _ _ e, leb-true _ _ f)
-    go true false e f z = clash (sym z)
-    go false b e f z = clash (sym z)
+may-is c w e = let a = both-true (ltb 0 c) _ e in (ltb-true _ _ (a .0), leb-true _ _ (a .1))
 
 -- a header with this capacity and this count, over words that are the same from the capacity on
 pub becomes : (h w w' : List ℕ) (c n : ℕ) → 2 ≤ length h → 0 < c → n ≤ c → c ≤ length w → length w' ≡ length w → drop c w' ≡ drop c w

@@ -64,12 +64,12 @@ counts-on (no-room b) e = e
 counts-on takes e = omega arith
 counts-on nothing e = e
 
-pub wholly : {c : ℕ} {l p : List ℕ} {k : Call} {y : Reply Stack} → Does c l p k y → length l + length p ≡ c
-    → (left y (mk c l p) .capacity ≡ c) × (depth (left y (mk c l p)) + length (left y (mk c l p) .spare) ≡ c)
-wholly (stores {p = p} b) e = (refl, omega (arith, length-drop 1 p))
-wholly (no-room b) e = (refl, e)
-wholly takes e = (refl, omega arith)
-wholly nothing e = (refl, e)
+pub wholly : {c n : ℕ} {l p : List ℕ} {k : Call} {y : Reply Stack} → Does c l p k y → c ≡ n → length l + length p ≡ n
+    → (left y (mk c l p) .capacity ≡ n) × (depth (left y (mk c l p)) + length (left y (mk c l p) .spare) ≡ n)
+wholly (stores {p = p} b) f e = (f, omega (arith, length-drop 1 p))
+wholly (no-room b) f e = (f, e)
+wholly takes f e = (f, omega arith)
+wholly nothing f e = (f, e)
 
 -- a code below 0
 pub refused : {c n : ℕ} {l p : List ℕ} {k : Call} {y : Reply Stack} → Does c l p k y → answer y ≡ negsuc n → left y (mk c l p) ≡ mk c l p

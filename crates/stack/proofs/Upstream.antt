@@ -1,23 +1,22 @@
 -- Our contracts imply those of Gale's stack.rs. Assumes nothing.
-use mathlib.Core.Path.{_≡_, refl, sym, ap, subst, _∙_}
+use mathlib.Core.Path.{_≡_, refl, ap, _∙_}
 use mathlib.Core.Bool.{true, false}
-use mathlib.Core.List.{List, [], _∷_}
+use mathlib.Core.List.{List}
 use Prim.Native.Nat.{ℕ, _≤_, _<_}
 use native.Mathlib.Omega.{arith}
 use lib.IntN.{ℤ}
-use lib.ListN.{length, getD, take}
+use lib.ListN.{length, getD}
 use Rattle.seq.proofs.Back.{back-length}
 use Rattle.thread.specs.Code.{enomem, ebusy, einval}
-use Rattle.store.specs.Store.{Reply, answer, Did, first, left}
-use Rattle.store.proofs.Laws.{answers, kept-bad, kept-no, handed-bad, handed-is}
-use Rattle.stack.specs.Stack.{Stack, push, pop, popped, full}
+use Rattle.store.specs.Store.{Reply, answer, left, out, first}
+use Rattle.store.proofs.Laws.{kept-bad, kept-no, handed-bad, handed-is}
+use Rattle.stack.specs.Stack.{Stack, push, pop, full}
 use Rattle.stack.specs.Post.{Pushes, Pops, place}
-use Rattle.stack.specs.History.{Call, pushing, popping, does, next, depth}
+use Rattle.stack.specs.History.{Call, pushing, popping, does, depth}
 use Rattle.stack.specs.Upstream.{Inv, Housed, Push, Pop, Stored, Taken}
 use Rattle.stack.proofs.Memory.{is-sound, formed}
-use Rattle.stack.proofs.Answers.{hands-nothing}
-use Rattle.stack.proofs.Calls.{mk, push-some, push-none, pop-some, Does, stores, no-room, takes, nothing, which}
-use Rattle.store.proofs.Histories.{done}
+use Rattle.stack.proofs.Calls.{mk, push-some, push-none, Does, stores, no-room, takes, nothing, which}
+use Rattle.store.proofs.Histories.{holds-after}
 
 -- memory is as it should be exactly if upstream's invariant holds of the stack in it, and it is housed
 pub inv-formed : (h w : List ℕ) → Housed h w → Inv (place .object h w) → place .formed h w ≡ true
@@ -69,38 +68,32 @@ pop-does i nothing =
       stayed = λ z. refl;
     }
 
-takes-first : (c : ℕ) (l p : List ℕ) (m m' : ℕ) → 0 < length l → m' ≡ first m (take 1 l) → Taken m' (mk c l p) (next (mk c l p) popping)
-takes-first c [] p m m' b f = absurd (omega arith)
-takes-first c (y ∷ l) p m m' b f = rw (pop-some c l p y) (record { held = cc })
+takes-first : {c : ℕ} {l p : List ℕ} {y : Reply Stack} (m m' : ℕ) → Does c l p popping y → 0 < length l → m' ≡ first m (out y)
+    → Taken m' (mk c l p) (left y (mk c l p))
+takes-first m m' takes b f = record { held = cc }
+takes-first m m' nothing b f = absurd (omega arith)
 
 module _ (h w : List ℕ) (r : ℤ) (h' : List ℕ) where
-  -- what holds of the call holds of the memory
-  holds : (k : Call) (R : ℤ → Stack → Type 0) {w' : List ℕ} → place .formed h w ≡ true → Did place (does k) h w r h' w'
-      → R (answer (does k (place .object h w))) (next (place .object h w) k) → R r (place .object h' w')
-  holds k R e d a =
-      subst (λ (s : Stack). R r s) (sym (done place (does k) h w e d .1))
-      (subst (λ (z : ℤ). R z (next (place .object h w) k)) (sym (answers place (does k) h w d e)) a)
-
   module _ (k : Housed h w) (i : Inv (place .object h w)) where
     abbrev here : {k : Call} → Does (getD h 0 0) (place .object h w .held) (place .object h w .spare) k (does k (place .object h w))
     here {k} = which (getD h 0 0) (place .object h w .held) (place .object h w .spare) k
 
     pub stack-push : (x : ℕ) (w' : List ℕ) → Pushes x h w r h' w' → Push (place .object h w) r (place .object h' w')
-    stack-push x w' d = holds (pushing x) (Push (place .object h w)) (inv-formed h w k i) d (push-does i here)
+    stack-push x w' d = holds-after place (push x) h w (Push (place .object h w)) (inv-formed h w k i) d (push-does i here)
 
     pub stack-pop : (m m' : ℕ) → Pops h w m r h' m' → Pop (place .object h w) r (place .object h' w)
-    stack-pop m m' (d, _) = holds popping (Pop (place .object h w)) (inv-formed h w k i) d (pop-does i here)
+    stack-pop m m' (d, _) = holds-after place pop h w (Pop (place .object h w)) (inv-formed h w k i) d (pop-does i here)
 
     -- and which word it is
     pub push-stores : (x : ℕ) (w' : List ℕ) → depth (place .object h w) < getD h 0 0 → Pushes x h w r h' w' → Stored x (place .object h w) (place .object h' w')
     push-stores x w' b d =
-        holds (pushing x) (λ z s'. Stored x (place .object h w) s') (inv-formed h w k i) d
+        holds-after place (push x) h w (λ z s'. Stored x (place .object h w) s') (inv-formed h w k i) d
         (rw (push-some (getD h 0 0) (place .object h w .held) (place .object h w .spare) x b) (record { held = refl }))
 
     pub pop-takes : (m m' : ℕ) → 0 < depth (place .object h w) → Pops h w m r h' m' → Taken m' (place .object h w) (place .object h' w)
     pop-takes m m' b (d, f) =
-        holds popping (λ z s'. Taken m' (place .object h w) s') (inv-formed h w k i) d
-        (takes-first (getD h 0 0) (place .object h w .held) (place .object h w .spare) m m' b (f ∙ ap (first m) (handed-is place h w popped (inv-formed h w k i))))
+        holds-after place pop h w (λ z s'. Taken m' (place .object h w) s') (inv-formed h w k i) d
+        (takes-first m m' here b (f ∙ ap (first m) (handed-is place pop h w (inv-formed h w k i))))
 
     -- a refusal changes no word
     pub push-full-stays : (x : ℕ) (w' : List ℕ) → getD h 0 0 ≤ depth (place .object h w) → Pushes x h w r h' w' → (r ≡ enomem) × (h' ≡ h) × (w' ≡ w)
@@ -109,12 +102,13 @@ module _ (h w : List ℕ) (r : ℤ) (h' : List ℕ) where
 
     pub pop-empty-stays : (m m' : ℕ) → getD h 1 0 ≡ 0 → Pops h w m r h' m' → (r ≡ ebusy) × (h' ≡ h) × (m' ≡ m)
     pop-empty-stays m m' e (d, f) =
-        let y : (r ≡ ebusy) × (h' ≡ h) × (w ≡ w) = kept-no place pop h w d (inv-formed h w k i) (rw e) in
-        (y .0, y .1, f ∙ sym (hands-nothing h w (inv-formed h w k i) e m))
+        let z = inv-formed h w k i in
+        let y : (r ≡ ebusy) × (h' ≡ h) × (w ≡ w) = kept-no place pop h w d z (rw e) in
+        (y .0, y .1, f ∙ rw (z, e))
 
   -- what upstream demands is refused here
   pub push-refuses : (x : ℕ) (w' : List ℕ) → place .formed h w ≡ false → Pushes x h w r h' w' → (r ≡ einval) × (h' ≡ h) × (w' ≡ w)
   push-refuses x w' e d = kept-bad place (push x) h w d e
 
   pub pop-refuses : (m m' : ℕ) → place .formed h w ≡ false → Pops h w m r h' m' → (r ≡ einval) × (h' ≡ h) × (m' ≡ m)
-  pop-refuses m m' e (d, f) = let y = kept-bad place pop h w d e in (y .0, y .1, f ∙ ap (first m) (handed-bad place h w popped e))
+  pop-refuses m m' e (d, f) = let y = kept-bad place pop h w d e in (y .0, y .1, f ∙ ap (first m) (handed-bad place pop h w e))

@@ -10,7 +10,7 @@ use lib.ListN.{length, getD}
 use Rattle.thread.specs.Code.{ok, enomem, ebusy}
 use Rattle.store.specs.Store.{Reply, answer, left}
 use Rattle.store.specs.History.{Step}
-use Rattle.stack.specs.Stack.{Stack, push, pop, popped}
+use Rattle.stack.specs.Stack.{Stack, push, pop}
 use Rattle.stack.specs.Post.{place}
 
 pub data Call : Type 0 where
@@ -20,10 +20,6 @@ pub data Call : Type 0 where
 abbrev pub does : Call → Stack → Reply Stack
 does (pushing x) s = push x s
 does popping s = pop s
-
-abbrev pub gives : Call → Stack → List ℕ
-gives (pushing x) s = []
-gives popping s = popped s
 
 abbrev pub next : Stack → Call → Stack
 next s k = left (does k s) s

@@ -9,7 +9,7 @@ use lib.IntN.{ℤ}
 use lib.ListN.{length, getD, take, drop}
 use Rattle.seq.specs.List.{back}
 use Rattle.store.specs.Store.{Decided, Place, Did, looks, Hands, Started}
-use Rattle.stack.specs.Stack.{Stack, pops, pushDecide, push, pop, popped, used, free, size, full, empty, fresh, may}
+use Rattle.stack.specs.Stack.{Stack, pops, pushDecide, push, pop, used, free, size, full, empty, fresh, may}
 
 -- with n of the words w held
 abbrev pub stackOf : (capacity n : ℕ) → List ℕ → Stack
@@ -40,7 +40,7 @@ Pushes x h w r h' w' = Did place (push x) h w r h' w'
 
 -- the word on top comes out, to the word x
 abbrev pub Pops : List ℕ → List ℕ → ℕ → ℤ → List ℕ → ℕ → Type 0
-Pops h w x r h' x' = Hands place pop popped h w x r h' x'
+Pops h w x r h' x' = Hands place pop h w x r h' x'
 
 -- a number of a stack
 abbrev pub CountsFree : List ℕ → List ℕ → ℤ → Type 0

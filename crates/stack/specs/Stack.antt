@@ -6,7 +6,7 @@ use lib.Dec.{eqb, ltb, leb}
 use lib.IntN.{ℤ, pos}
 use lib.ListN.{length, take, drop}
 use Rattle.thread.specs.Code.{ok, enomem, ebusy, einval}
-use Rattle.store.specs.Store.{Reply, refuse, accept, carry}
+use Rattle.store.specs.Store.{Reply, refuse, accept, carry, handing}
 
 pub record Stack : Type 0 where
   -- how many words it can hold
@@ -26,11 +26,11 @@ waits = pos 1
 
 -- what a push makes of the count. If somebody waits, the word goes there, and as many are held as before
 abbrev pub pushes : (count capacity : ℕ) → (waiting : Bool) → Reply ℕ
-pushes count capacity waiting = cond waiting (accept count wakesWaiter) (cond (ltb count capacity) (accept (suc count) ok) (refuse enomem))
+pushes count capacity waiting = cond waiting (accept count wakesWaiter []) (cond (ltb count capacity) (accept (suc count) ok []) (refuse enomem))
 
 -- what a pop makes of the count. Where no word is held it is refused, unless the caller may wait
 abbrev pub pops : (count : ℕ) → (noWait : Bool) → Reply ℕ
-pops count noWait = cond (ltb 0 count) (accept (count - 1) ok) (cond noWait (refuse ebusy) (accept count waits))
+pops count noWait = cond (ltb 0 count) (accept (count - 1) ok []) (cond noWait (refuse ebusy) (accept count waits []))
 
 -- numbers that a stack can have: nobody waits while it holds a word
 abbrev pub right : (count capacity : ℕ) → (waiting : Bool) → Bool
@@ -45,15 +45,12 @@ push x s =
     carry (λ n. record { capacity = s .capacity; held = x ∷ s .held; spare = drop 1 (s .spare) })
     (pushes (length (s .held)) (s .capacity) false)
 
--- the first is taken; its word of memory is the next to be written
+-- the first is handed out; its word of memory is the next to be written
 abbrev pub pop : Stack → Reply Stack
 pop s =
-    carry (λ n. record { capacity = s .capacity; held = drop 1 (s .held); spare = take 1 (s .held) ++ s .spare })
-    (pops (length (s .held)) true)
-
--- what a pop hands out
-abbrev pub popped : Stack → List ℕ
-popped s = take 1 (s .held)
+    handing (take 1 (s .held))
+    (carry (λ n. record { capacity = s .capacity; held = drop 1 (s .held); spare = take 1 (s .held) ++ s .spare })
+    (pops (length (s .held)) true))
 
 abbrev pub used : Stack → ℤ
 used s = pos (length (s .held))

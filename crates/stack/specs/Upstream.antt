@@ -8,8 +8,8 @@ use lib.IntN.{ℤ, pos}
 use lib.ListN.{length, getD}
 use Rattle.thread.specs.Code.{ok, enomem, ebusy, einval}
 use Rattle.thread.specs.Upstream.{Tells}
-use Rattle.store.specs.Store.{refuse, settled}
-use Rattle.stack.specs.Stack.{Stack, wakesWaiter, waits, pushes, pops, push, pop, popped, free, used, size, fresh, may}
+use Rattle.store.specs.Store.{refuse, out, settled}
+use Rattle.stack.specs.Stack.{Stack, wakesWaiter, waits, pushes, pops, push, pop, free, used, size, fresh, may}
 use Rattle.stack.specs.History.{Call, pushing, popping, next, depth}
 
 -- Stack::inv
@@ -136,7 +136,7 @@ pub record PushPop (s : Stack) (x : ℕ) : Type 0 where
   -- after_pop == count
   pub count : settled (λ n. n) (pops (settled (λ n. n) (pushes (depth s) (s .capacity) false) 0) true) 0 ≡ depth s
   -- the pop hands out what was pushed, and the stack holds what it held
-  pub word : popped (next s (pushing x)) ≡ x ∷ []
+  pub word : out (pop (next s (pushing x))) ≡ x ∷ []
   pub held : next (next s (pushing x)) popping .held ≡ s .held
 
 -- lemma_capacity_conservation: (capacity - count) + count == capacity

@@ -8,7 +8,7 @@ use lib.Dec.{leb}
 use lib.IntN.{ℤ}
 use lib.ListN.{length}
 use Rattle.thread.specs.Code.{ok, einval}
-use Rattle.store.specs.Store.{Reply, refuse, accept, answer, left, out, Place, After, Did, looks, Filled, first, Started}
+use Rattle.store.specs.Store.{Reply, refuse, accept, answer, left, out, Place, reply, After, Did, looks, Filled, first, Hands, Started}
 use Rattle.store.specs.History.{Step, Ran, fresh, ran, Made, begun, made}
 use Rattle.store.proofs.Laws.{replies, answers, did-bad, looks-is, looks-bad, handed-is}
 
@@ -22,6 +22,12 @@ module _ {S : Type 0} (P : Place S) where
   pub done : (f : S → Reply S) (h b : List ℕ) {r : ℤ} {h' b' : List ℕ} → P .formed h b ≡ true → Did P f h b r h' b'
       → (P .formed h' b' ≡ true) × (P .object h' b' ≡ left (f (P .object h b)) (P .object h b))
   done f h b {h' = h'} {b' = b'} e d = leaves (f (P .object h b)) h b h' b' e (subst (λ (y : Reply S). After P y h b h' b') (replies P f h b e) (d .after))
+
+  -- what holds of the call holds of the memory
+  pub holds-after : (f : S → Reply S) (h b : List ℕ) (R : ℤ → S → Type 0) {r : ℤ} {h' b' : List ℕ} → P .formed h b ≡ true → Did P f h b r h' b'
+      → R (answer (f (P .object h b))) (left (f (P .object h b)) (P .object h b)) → R r (P .object h' b')
+  holds-after f h b R {r} e d a =
+      subst (λ (s : S). R r s) (sym (done f h b e d .1)) (subst (λ (z : ℤ). R z (left (f (P .object h b)) (P .object h b))) (sym (answers P f h b d e)) a)
 
   -- a call that only reads
   pub did-look : (f : S → Reply S) (h b : List ℕ) {r : ℤ} → ((s : S) → left (f s) s ≡ s) → r ≡ looks P (λ s. answer (f s)) h b → Did P f h b r h b
@@ -51,13 +57,29 @@ module _ {S K : Type 0} (P : Place S) (does : K → S → Reply S) where
   runs e begun = (e, fresh)
   runs {h₀} {b₀} e (made {ss} {k} {r} {h} {b} {h'} {b'} o o' m d f) =
       let a = runs e m in
-      let t = done P (does k) h b (a .0) d in
       let g : Filled (out (does k (P .object h b))) o o' = rw (handed-is P (does k) h b (a .0)) at f in (
-        t .0,
-        subst (λ (s : S). Ran does (P .object h₀ b₀) (record { call = k; answer = r; out = o' } ∷ ss) s) (sym (t .1))
-            (subst (λ (z : ℤ). Ran does (P .object h₀ b₀) (record { call = k; answer = z; out = o' } ∷ ss) (left (does k (P .object h b)) (P .object h b)))
-            (sym (answers P (does k) h b d (a .0))) (ran o o' (a .1) g)),
+        done P (does k) h b (a .0) d .0,
+        holds-after P (does k) h b (λ z s. Ran does (P .object h₀ b₀) (record { call = k; answer = z; out = o' } ∷ ss) s) (a .0) d (ran o o' (a .1) g),
       )
+
+  -- a function that hands nothing out, or one word at most, makes a step: what it ensures is what a step needs
+  module _ {h₀ b₀ : List ℕ} {ss : List (Step K)} {k : K} {h b : List ℕ} {r : ℤ} {h' : List ℕ} (m : Made P does h₀ b₀ ss h b) where
+    pub plain-made : ((s : S) → out (does k s) ≡ []) → {b' : List ℕ} → Did P (does k) h b r h' b'
+        → Made P does h₀ b₀ (record { call = k; answer = r; out = [] } ∷ ss) h' b'
+    plain-made n d = made [] [] m d (go (P .formed h b))
+      where
+        go : (c : Bool) → Filled (out (cond c (does k (P .object h b)) (refuse einval))) [] []
+        go true = rw (n (P .object h b)) refl
+        go false = refl
+
+    -- x was in the word that is lent, and now y is
+    pub hands-made : ((s : S) → length (out (does k s)) ≤ 1) → (x y : ℕ) → Hands P (does k) h b x r h' y
+        → Made P does h₀ b₀ (record { call = k; answer = r; out = y ∷ [] } ∷ ss) h' b
+    hands-made n x y (d, e) = made (x ∷ []) (y ∷ []) m d (first-filled (out (reply P (does k) h b)) x y (go (P .formed h b)) e)
+      where
+        go : (c : Bool) → length (out (cond c (does k (P .object h b)) (refuse einval))) ≤ 1
+        go true = n (P .object h b)
+        go false = omega arith
 
   -- after a start that is answered 0
   pub from-start : {m : Bool} {s : S} {h b h₀ b₀ : List ℕ} → Started P m s h b ok h₀ b₀ → {ss : List (Step K)} {h' b' : List ℕ} → Made P does h₀ b₀ ss h' b'

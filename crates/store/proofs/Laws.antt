@@ -1,6 +1,6 @@
 -- How a function shows what it did, and how its callers use it.
 use mathlib.Core.Path.{_≡_, refl, sym, ap, subst, _∙_}
-use mathlib.Core.Bool.{Bool, true, false}
+use mathlib.Core.Bool.{Bool, true, false, not-eq-not}
 use mathlib.Core.List.{List, [], _∷_}
 use Prim.Native.Nat.{ℕ, _<_, _≤_}
 use native.Mathlib.Omega.{arith}
@@ -20,11 +20,16 @@ pub any-none : {A : Type 0} (l : List A) → length l ≡ 0 → any l ≡ false
 any-none [] f = refl
 any-none (x ∷ l) f = absurd (omega arith)
 
+-- a test that does not say yes
+pub refuted : {b : Bool} → (b ≡ true → ⊥) → b ≡ false
+refuted n = not-eq-not .0 n
+
 pub no-code : {n : ℕ} → pos 0 ≡ negsuc n → ⊥
 no-code z = let y : _≡_ {A = ℕ} 0 1 = cc in omega arith
 
 module _ {S : Type 0} (P : Place S) (f : S → Reply S) (h b : List ℕ) where
-  did : (y : Reply S) (h' b' : List ℕ) → reply P f h b ≡ y → After P y h b h' b' → Did P f h b (answer y) h' b'
+  -- by the reply
+  pub did : (y : Reply S) (h' b' : List ℕ) → reply P f h b ≡ y → After P y h b h' b' → Did P f h b (answer y) h' b'
   did y h' b' e a = record { code = ap answer (sym e); after = subst (λ (x : Reply S). After P x h b h' b') (sym e) a }
 
   pub replies : P .formed h b ≡ true → reply P f h b ≡ f (P .object h b)
@@ -124,6 +129,12 @@ carry-left f (accept m r o) n = refl
 pub did-alike : {S : Type 0} (P : Place S) (f g : S → Reply S) (h b : List ℕ) {r : ℤ} {h' b' : List ℕ} → reply P f h b ≡ reply P g h b → Did P f h b r h' b'
     → Did P g h b r h' b'
 did-alike {S} P f g h b {h' = h'} {b' = b'} o d = record { code = d .code ∙ ap answer o; after = subst (λ (y : Reply S). After P y h b h' b') o (d .after) }
+
+-- the way back
+pub becomes-back : {S : Type 0} (P : Place S) {s : S} {h b h' b' : List ℕ} → P .formed h b ≡ true → P .size h' ≡ P .size h → Becomes P s h b h' b'
+    → Becomes P (P .object h b) h' b' h b
+becomes-back P e z m =
+    record { formed = e; object = refl; beside = sym (m .beside); rest = sym (rw z at (m .rest)); long = (sym (m .long .0), sym (m .long .1)) }
 
 -- what is decided on plain numbers, or declined
 module _ {d : Reply ℕ} {a : ℤ} where

@@ -1,11 +1,11 @@
 -- One law for each answer. Assumes nothing.
 use mathlib.Core.Path.{sym, _∙_}
 use native.Mathlib.Omega.{arith}
-use Rattle.store.proofs.Laws.{did-bad, hands-none}
+use Rattle.store.proofs.Laws.{hands-bad}
 use Rattle.stack.specs.Stack as stack
 use Rattle.stack.specs.Post.{place}
 use Rattle.stack.proofs.Memory.{Sound, formed, malformed}
-use Rattle.stack.proofs.Answers.{pop-none, popped-one, hands, hands-nothing}
+use Rattle.stack.proofs.Answers.{pop-none, popped}
 use borrow.Author.Needs.{needs}
 use Rattle.stack.proofs.pop.Statement.{statement}
 use Rattle.stack.proofs.pop.Tie as tie
@@ -14,7 +14,7 @@ returns : tie.Need-returns
 returns c =
     let a = c .before .before .before .args in
     let z = malformed (a .h .now) (a .w .now) (λ s. omega (arith, s)) in
-    (did-bad place stack.pop (a .h .now) (a .w .now) z, hands-none place (a .h .now) (a .w .now) stack.popped (a .data .now) z)
+    hands-bad place stack.pop (a .h .now) (a .w .now) (a .data .now) z
 
 slice-read-n : tie.Need-slice-read-n
 slice-read-n c = search needs
@@ -29,7 +29,7 @@ returns-2 : tie.Need-returns-2
 returns-2 c =
     let a = c .before .before .before .before .before .before .before .before .args in
     let z = sym (c .before .formed .ensures) ∙ c .if3 .taken in
-    (pop-none (a .h .now) (a .w .now) z (omega arith), hands-nothing (a .h .now) (a .w .now) z (omega arith) (a .data .now))
+    pop-none (a .h .now) (a .w .now) z (a .data .now) (omega arith)
 
 same-length-2 : tie.Need-same-length-2
 same-length-2 c = search needs
@@ -38,7 +38,7 @@ returns-3 : tie.Need-returns-3
 returns-3 c =
     let a = c .before .before .before .before .before .before .before .before .args in
     let z = sym (c .before .formed .ensures) ∙ c .if3 .left in
-    (did-bad place stack.pop (a .h .now) (a .w .now) z, hands-none place (a .h .now) (a .w .now) stack.popped (a .data .now) z)
+    hands-bad place stack.pop (a .h .now) (a .w .now) (a .data .now) z
 
 slice-read-if4 : tie.Need-slice-read-if4
 slice-read-if4 c = search needs
@@ -47,7 +47,7 @@ returns-4 : tie.Need-returns-4
 returns-4 c =
     let a = c .before .before .before .before .before .before .before .args in
     let z = malformed (a .h .now) (a .w .now) (λ s. omega (arith, s)) in
-    (did-bad place stack.pop (a .h .now) (a .w .now) z, hands-none place (a .h .now) (a .w .now) stack.popped (a .data .now) z)
+    hands-bad place stack.pop (a .h .now) (a .w .now) (a .data .now) z
 
 slice-read-wide : tie.Need-slice-read-wide
 slice-read-wide c = search needs
@@ -59,7 +59,7 @@ returns-5 : tie.Need-returns-5
 returns-5 c =
     let a = c .before .before .before .before .before .before .before .before .before .before .args in
     let z = malformed (a .h .now) (a .w .now) (λ s. omega (arith, s, c .before .wide .ensures)) in
-    (did-bad place stack.pop (a .h .now) (a .w .now) z, hands-none place (a .h .now) (a .w .now) stack.popped (a .data .now) z)
+    hands-bad place stack.pop (a .h .now) (a .w .now) (a .data .now) z
 
 sub-h : tie.Need-sub-h
 sub-h c = search needs
@@ -88,7 +88,7 @@ returns-6 c =
     let s : Sound (a .h .now) (a .w .now) =
     record { words = omega arith; some-room = omega arith; within = omega arith; housed = omega (arith, c .before .before .before .wide .ensures) } in
     let z = formed (a .h .now) (a .w .now) s in
-    (popped-one (a .h .now) (a .w .now) z _ (omega arith), hands (a .h .now) (a .w .now) z _ (omega arith) (a .data .now))
+    rw (c .before .wide2 .ensures) (popped (a .h .now) (a .w .now) z (a .data .now) _ (omega arith))
 
 pub pop-spec : {M : Type 1} → statement M
 pop-spec =
