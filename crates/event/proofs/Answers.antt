@@ -32,7 +32,7 @@ module _ (h : List ℕ) where
 
   -- a word was stored, and a number answered: those of f
   module _ (k : 1 ≤ length h) where
-    stores : (f : ℕ → Reply ℕ) {e e' : ℕ} {r r' : ℤ} → f (getD h 0 0) ≡ accept e' r' → e ≡ e' → r ≡ r' → Did place f h [] r (set h 0 e) []
+    stores : (f : ℕ → Reply ℕ) {e e' : ℕ} {r r' : ℤ} → f (getD h 0 0) ≡ accept e' r' [] → e ≡ e' → r ≡ r' → Did place f h [] r (set h 0 e) []
     stores f {e' = e'} o p q = rw (p, q) (did-yes place f h [] (le-leb 1 (length h) k) o (becomes h e' k))
 
     module _ (b : getD h 0 0 < 4294967296) (x : ℕ) (bx : x < 4294967296) {r : ℤ} where
@@ -65,7 +65,7 @@ module _ (e d t : ℕ) (b : Bool) where
   no-type k = rw (lt-leb t 1 k)
 
   module _ (k : t ≤ 1) where
-    pub met-now : met t d e ≡ true → waits e d t b ≡ accept (matching d e) event.matched
+    pub met-now : met t d e ≡ true → waits e d t b ≡ accept (matching d e) event.matched []
     met-now p = rw (le-leb t 1 k, p)
 
     pub wait-matched : (m : ℕ) → d < 4294967296 → e < 4294967296 → met t d e ≡ true → WaitDecided e d t b m ok (bitAnd e d)
@@ -74,5 +74,5 @@ module _ (e d t : ℕ) (b : Bool) where
     pub wait-busy : met t d e ≡ false → b ≡ true → waits e d t b ≡ refuse ebusy
     wait-busy p q = rw (le-leb t 1 k, p, q)
 
-    pub wait-pends : met t d e ≡ false → b ≡ false → waits e d t b ≡ accept 0 event.pends
+    pub wait-pends : met t d e ≡ false → b ≡ false → waits e d t b ≡ accept 0 event.pends []
     wait-pends p q = rw (le-leb t 1 k, p, q)

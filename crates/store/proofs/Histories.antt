@@ -23,6 +23,13 @@ module _ {S : Type 0} (P : Place S) where
       → (P .formed h' b' ≡ true) × (P .object h' b' ≡ left (f (P .object h b)) (P .object h b))
   done f h b {h' = h'} {b' = b'} e d = leaves (f (P .object h b)) h b h' b' e (subst (λ (y : Reply S). After P y h b h' b') (replies P f h b e) (d .after))
 
+  -- what holds of the operation holds of the memory
+  pub holds : (f : S → Reply S) (h b : List ℕ) (R : ℤ → S → Type 0) {r : ℤ} {h' b' : List ℕ} → P .formed h b ≡ true → Did P f h b r h' b'
+      → R (answer (f (P .object h b))) (left (f (P .object h b)) (P .object h b)) → R r (P .object h' b')
+  holds f h b R {r} e d a =
+      subst (R r) (sym (done f h b e d .1))
+      (subst (λ (z : ℤ). R z (left (f (P .object h b)) (P .object h b))) (sym (answers P f h b d e)) a)
+
   -- a call that only reads
   pub did-look : (f : S → Reply S) (h b : List ℕ) {r : ℤ} → ((s : S) → left (f s) s ≡ s) → r ≡ looks P (λ s. answer (f s)) h b → Did P f h b r h b
   did-look f h b {r} n e = go (P .formed h b) refl

@@ -20,8 +20,12 @@ pub any-none : {A : Type 0} (l : List A) → length l ≡ 0 → any l ≡ false
 any-none [] f = refl
 any-none (x ∷ l) f = absurd (omega arith)
 
-pub no-code : {n : ℕ} → pos 0 ≡ negsuc n → ⊥
-no-code z = let y : _≡_ {A = ℕ} 0 1 = cc in omega arith
+-- no answer is two
+pub no-code : {P : Type 0} {m n : ℕ} → pos m ≡ negsuc n → P
+no-code z = absurd (let y : _≡_ {A = ℕ} 0 1 = cc in omega arith)
+
+pub not-one : {P : Type 0} → pos 0 ≡ pos 1 → P
+not-one z = absurd (let y : _≡_ {A = ℕ} 0 1 = cc in omega arith)
 
 module _ {S : Type 0} (P : Place S) (f : S → Reply S) (h b : List ℕ) where
   did : (y : Reply S) (h' b' : List ℕ) → reply P f h b ≡ y → After P y h b h' b' → Did P f h b (answer y) h' b'
@@ -118,11 +122,11 @@ module _ {S : Type 0} (P : Place S) (h b : List ℕ) where
 module _ {S : Type 0} {P : Place S} {may : Bool} {s : S} {h b : List ℕ} where
   -- a header that is too short
   pub start-short : length h < P .words → Started P may s h b einval h b
-  start-short e = record { code = rw (lt-leb (P .words) (length h) e); made = λ p. absurd (no-code (sym p)); kept = λ n p. (refl, refl) }
+  start-short e = record { code = rw (lt-leb (P .words) (length h) e); made = λ p. no-code (sym p); kept = λ n p. (refl, refl) }
 
   -- numbers that may not be
   pub start-bad : P .words ≤ length h → may ≡ false → Started P may s h b einval h b
-  start-bad e m = record { code = rw (le-leb (P .words) (length h) e, m); made = λ p. absurd (no-code (sym p)); kept = λ n p. (refl, refl) }
+  start-bad e m = record { code = rw (le-leb (P .words) (length h) e, m); made = λ p. no-code (sym p); kept = λ n p. (refl, refl) }
 
   pub start-made : {h' b' : List ℕ} → P .words ≤ length h → may ≡ true → Becomes P s h b h' b' → Started P may s h b ok h' b'
-  start-made e m x = record { code = rw (le-leb (P .words) (length h) e, m); made = λ p. x; kept = λ n p. absurd (no-code p) }
+  start-made e m x = record { code = rw (le-leb (P .words) (length h) e, m); made = λ p. x; kept = λ n p. no-code p }
