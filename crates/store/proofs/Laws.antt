@@ -6,8 +6,9 @@ use Prim.Native.Nat.{ℕ, _<_, _≤_}
 use native.Mathlib.Omega.{arith}
 use borrow.Author.Tests.{lt-leb, le-leb}
 use lib.IntN.{ℤ, pos, negsuc}
-use lib.ListN.{length}
+use lib.ListN.{length, drop}
 use Rattle.seq.specs.List.{any}
+use Rattle.seq.proofs.Words.{Each, by-words}
 pub use Rattle.seq.proofs.Order.{both-true}
 use Rattle.thread.specs.Code.{ok, einval}
 use Rattle.store.specs.Store.{Reply, refuse, accept, answer, out, Decided, Place, reply, Becomes, After, Did, looks, Filled, first, Fills, Hands, Started}
@@ -96,6 +97,17 @@ module _ {S : Type 0} (P : Place S) (f : S → Reply S) (h b : List ℕ) where
 
     pub kept-no : {c : ℤ} → P .formed h b ≡ true → f (P .object h b) ≡ refuse c → (r ≡ c) × (h' ≡ h) × (b' ≡ b)
     kept-no e o = kept (replies e ∙ o)
+
+-- w h is what stores to the object's own words make of the header h, where there is no buffer: the object is s h then
+module _ {S : Type 0} (P : Place S) (s : List ℕ → S) (w : List ℕ → List ℕ) where
+  abbrev pub Written : Type 0
+  Written = Each (P .words) (λ h. (P .object (w h) [] ≡ s h) × (drop (P .words) (w h) ≡ drop (P .words) h) × (length (w h) ≡ length h))
+
+  pub wrote : Written → (h : List ℕ) → P .words ≤ length h → (P .object (w h) [] ≡ s h → length (w h) ≡ length h → P .formed (w h) [] ≡ true)
+      → Becomes P (s h) h [] (w h) []
+  wrote e h k f =
+      let a = by-words (P .words) _ e h k in
+      record { formed = f (a .0) (a .2); object = a .0; beside = a .1; rest = refl; long = (a .2, refl) }
 
 -- what is decided on plain numbers, or declined
 module _ {d : Reply ℕ} {a : ℤ} where
