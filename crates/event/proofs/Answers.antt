@@ -1,7 +1,7 @@
 -- How each answer of a function meets the flags' definition. Assumes nothing.
 use mathlib.Core.Path.{_≡_, refl, sym, ap, _∙_}
 use mathlib.Core.Bool.{Bool, true, false}
-use mathlib.Core.List.{List, [], _∷_}
+use mathlib.Core.List.{List, []}
 use Prim.Native.Nat.{ℕ, _-_, _≤_, _<_}
 use native.Mathlib.Omega.{arith}
 use borrow.Author.Tests.{le-leb, lt-leb}
@@ -10,15 +10,14 @@ use lib.IntN.{ℤ, pos}
 use lib.ListN.{length, getD, set}
 use Rattle.thread.specs.Code.{ok, ebusy, einval}
 use Rattle.store.specs.Store.{Reply, refuse, accept, Becomes, Did, looks}
-use Rattle.store.proofs.Laws.{did-bad, did-yes, decides, looks-bad, looks-is, start-short, start-made}
+use Rattle.store.proofs.Laws.{did-bad, did-yes, wrote, decides, looks-bad, looks-is, start-short, start-made}
 use Rattle.event.specs.Event.{masked, post, setMasked, clear, matching, told, met, waits}
 use Rattle.event.specs.Event as event
 use Rattle.event.specs.Post.{Starts, Posts, Sets, SetsMasked, Clears, WaitDecided, place}
 use Rattle.event.proofs.Words.{or-is, and-is, and-not-is}
 
 becomes : (h : List ℕ) (e : ℕ) → 1 ≤ length h → Becomes place e h [] (set h 0 e) []
-becomes [] e k = absurd (omega arith)
-becomes (x ∷ t) e k = record { formed = le-leb 1 (length (e ∷ t)) (omega arith); object = refl; beside = refl; rest = refl; long = (refl, refl) }
+becomes h e k = wrote place (λ h. e) (λ h. set h 0 e) (λ x t. (refl, refl, refl)) h k (λ o l. le-leb 1 (length (set h 0 e)) (omega arith))
 
 module _ (h : List ℕ) where
   pub init-short : length h < 1 → Starts h einval h

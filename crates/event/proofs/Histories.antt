@@ -12,7 +12,8 @@ use Rattle.store.specs.History.{Step, Ran}
 use Rattle.store.proofs.Histories.{throughout, runs, from-start}
 use Rattle.event.specs.Event.{width}
 use Rattle.event.specs.Post.{place}
-use Rattle.event.specs.History.{Call, posting, setting, settingMasked, clearing, does, next, silent, there, says, heard, Promise, Always, FromInit, AllMasked}
+use Rattle.event.specs.History.{Call, posting, setting, settingMasked, clearing, does, next, silent, there, says, heard, Promise}
+use Rattle.event.specs.History.{Always, FromInit, AllMasked}
 
 said : (c d b : Bool) → cond c d b ≡ heard (cond c (there d) silent) b
 said true d b = refl

@@ -1,6 +1,6 @@
 -- Our contracts imply those of Gale's event.rs. Assumes nothing.
 use mathlib.Core.Path.{_≡_, refl, sym, ap, _∙_}
-use mathlib.Core.Bool.{Bool, true, false, not}
+use mathlib.Core.Bool.{Bool}
 use mathlib.Core.Logic.{inl, inr}
 use mathlib.Core.List.{List, []}
 use Prim.Native.Nat.{ℕ, _≤_, _<_}
@@ -13,7 +13,7 @@ use lib.ListN.{length, getD}
 use Rattle.seq.proofs.Bits.{bits-lt}
 use Rattle.thread.specs.Code.{ok, einval}
 use Rattle.store.specs.Store.{Reply, Did, looks}
-use Rattle.store.proofs.Laws.{kept-bad, looks-is, looks-bad}
+use Rattle.store.proofs.Laws.{either, kept-bad, looks-is, looks-bad}
 use Rattle.store.proofs.Histories.{holds}
 use Rattle.event.specs.Event.{width, post, set, setMasked, clear, anyThere, allThere, told}
 use Rattle.event.specs.Post.{Starts, Posts, Sets, SetsMasked, Clears, ChecksAny, ChecksAll, GetsEvents, place}
@@ -74,15 +74,11 @@ module _ (h : List ℕ) (r : ℤ) (h' : List ℕ) where
       tells f b p e = e ∙ looks-is place h [] (λ e. told (f e)) (le-leb 1 (length h) k) ∙ ap told (sym p)
 
       pub event-wait-check-any : ChecksAny x h r → WaitCheckAny x (getD h 0 0) r
-      event-wait-check-any e = go (eqb (bitAnd (getD h 0 0) x) 0) refl (tells (anyThere x) _ (any-is x (getD h 0 0) hx he) e)
-        where
-          go : (b : Bool) → eqb (bitAnd (getD h 0 0) x) 0 ≡ b → r ≡ told (not b) → WaitCheckAny x (getD h 0 0) r
-          go true p q = inr (q, λ n. n (eqb-true _ 0 p))
-          go false p q = inl (q, eqb-false _ 0 p)
+      event-wait-check-any e =
+          let q = tells (anyThere x) _ (any-is x (getD h 0 0) hx he) e in
+          either (eqb (bitAnd (getD h 0 0) x) 0) (λ p. inr (rw p at q, λ n. n (eqb-true _ 0 p))) (λ p. inl (rw p at q, eqb-false _ 0 p))
 
       pub event-wait-check-all : ChecksAll x h r → WaitCheckAll x (getD h 0 0) r
-      event-wait-check-all e = go (eqb (bitAnd (getD h 0 0) x) x) refl (tells (allThere x) _ (all-is x (getD h 0 0) hx he) e)
-        where
-          go : (b : Bool) → eqb (bitAnd (getD h 0 0) x) x ≡ b → r ≡ told b → WaitCheckAll x (getD h 0 0) r
-          go true p q = inl (q, eqb-true _ x p)
-          go false p q = inr (q, eqb-false _ x p)
+      event-wait-check-all e =
+          let q = tells (allThere x) _ (all-is x (getD h 0 0) hx he) e in
+          either (eqb (bitAnd (getD h 0 0) x) x) (λ p. inl (rw p at q, eqb-true _ x p)) (λ p. inr (rw p at q, eqb-false _ x p))

@@ -4,7 +4,8 @@ use mathlib.Core.Bool.{Bool, true, false}
 use mathlib.Core.List.{List, [], _∷_}
 use Prim.Native.Nat.{ℕ, _<_, _≤_}
 use native.Mathlib.Omega.{arith}
-use borrow.Author.Tests.{lt-leb, le-leb}
+use lib.Dec.{ltb}
+use borrow.Author.Tests.{ltb-true, ltb-false, lt-leb, le-leb}
 use lib.IntN.{ℤ, pos, negsuc}
 use lib.ListN.{length, drop}
 use Rattle.seq.specs.List.{any}
@@ -20,6 +21,14 @@ any-some (x ∷ l) f = refl
 pub any-none : {A : Type 0} (l : List A) → length l ≡ 0 → any l ≡ false
 any-none [] f = refl
 any-none (x ∷ l) f = absurd (omega arith)
+
+-- a test, and of two numbers which is less
+pub either : {P : Type 0} (b : Bool) → (b ≡ true → P) → (b ≡ false → P) → P
+either true f g = f refl
+either false f g = g refl
+
+pub less : {P : Type 0} (m n : ℕ) → (m < n → P) → (n ≤ m → P) → P
+less m n f g = either (ltb m n) (λ e. f (ltb-true m n e)) (λ e. g (ltb-false m n e))
 
 -- no answer is two
 pub no-code : {P : Type 0} {m n : ℕ} → pos m ≡ negsuc n → P
@@ -80,6 +89,14 @@ module _ {S : Type 0} (P : Place S) (f : S → Reply S) (h b : List ℕ) where
         → Hands P f h b x r h' (first x l)
     hands-yes e y m = (did-yes e y m, rw (replies e, y) refl)
 
+    -- it is told, and nothing changes
+    pub hands-look : {r : ℤ} {l : List ℕ} → P .formed h b ≡ true → f (P .object h b) ≡ accept (P .object h b) r l → Hands P f h b x r h (first x l)
+    hands-look e y = hands-yes e y (record { formed = e; object = refl; beside = refl; rest = refl; long = (refl, refl) })
+
+    -- what a caller was told
+    pub handed : {y : Reply S} {r : ℤ} {h' : List ℕ} {x' : ℕ} → reply P f h b ≡ y → Hands P f h b x r h' x' → (r ≡ answer y) × (x' ≡ first x (out y))
+    handed e d = (d .0 .code ∙ ap answer e, d .1 ∙ ap (λ (z : Reply S). first x (out z)) e)
+
   module _ {r : ℤ} {h' b' : List ℕ} (d : Did P f h b r h' b') where
     -- what a caller knows of an operation that was done
     pub became : {s : S} {a : ℤ} {l : List ℕ} → P .formed h b ≡ true → f (P .object h b) ≡ accept s a l → Becomes P s h b h' b'
@@ -97,6 +114,10 @@ module _ {S : Type 0} (P : Place S) (f : S → Reply S) (h b : List ℕ) where
 
     pub kept-no : {c : ℤ} → P .formed h b ≡ true → f (P .object h b) ≡ refuse c → (r ≡ c) × (h' ≡ h) × (b' ≡ b)
     kept-no e o = kept (replies e ∙ o)
+
+  -- what was not refused was not malformed
+  pub found : {n : ℕ} {h' b' : List ℕ} → Did P f h b (pos n) h' b' → P .formed h b ≡ true
+  found d = either (P .formed h b) (λ e. e) (λ e. no-code (kept-bad d e .0))
 
 -- w h is what stores to the object's own words make of the header h, where there is no buffer: the object is s h then
 module _ {S : Type 0} (P : Place S) (s : List ℕ → S) (w : List ℕ → List ℕ) where

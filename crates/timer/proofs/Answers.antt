@@ -1,16 +1,14 @@
 -- How each answer of a function meets the timer's definition. Assumes nothing.
 use mathlib.Core.Path.{_≡_, refl}
-use mathlib.Core.Bool.{Bool, true, false}
 use mathlib.Core.List.{List, []}
 use Prim.Native.Nat.{ℕ, suc, _≤_, _<_}
 use native.Mathlib.Omega.{arith}
-use lib.Dec.{ltb}
 use lib.IntN.{ℤ, pos}
 use lib.ListN.{length, getD, set}
-use borrow.Author.Tests.{ltb-true, ltb-false, lt-ltb, le-leb, lt-leb, eq-eqb, ne-eqb}
+use borrow.Author.Tests.{lt-ltb, le-ltb, le-leb, lt-leb, eq-eqb, ne-eqb}
 use Rattle.thread.specs.Code.{ok, eoverflow, einval}
 use Rattle.store.specs.Store.{Reply, refuse, accept, Becomes, Did, looks}
-use Rattle.store.proofs.Laws.{did-bad, did-no, did-yes, Written, wrote, start-short, start-made}
+use Rattle.store.proofs.Laws.{less, did-bad, did-no, did-yes, Written, wrote, start-short, start-made}
 use Rattle.timer.specs.Timer.{Timer, timer, most, unlessZero, expireDecide, start, stop, expire, statusGet, fresh}
 use Rattle.timer.specs.Post.{Starts, StartsRunning, Stops, Expires, GetsStatus, place}
 
@@ -35,11 +33,7 @@ module _ (s p : ℕ) where
 pub by-expiry : (P : Reply Timer → Type 0) (t : Timer)
     → (t .status < most → P (accept (timer (suc (t .status)) (t .period) (t .running)) (pos (suc (t .status))) []))
     → (most ≤ t .status → P (refuse eoverflow)) → P (expire t)
-by-expiry P t f g = go (ltb (t .status) most) refl
-  where
-    go : (b : Bool) → ltb (t .status) most ≡ b → P (expire t)
-    go true e = rw e (f (ltb-true (t .status) most e))
-    go false e = rw e (g (ltb-false (t .status) most e))
+by-expiry P t f g = less (t .status) most (λ b. rw (lt-ltb (t .status) most b) (f b)) (λ b. rw (le-ltb (t .status) most b) (g b))
 
 module _ (h : List ℕ) where
   -- a header that is too short

@@ -1,6 +1,6 @@
 -- What each call keeps of the count, and so any sequence of calls. Assumes nothing.
 use mathlib.Core.Path.{_≡_, refl, ap}
-use mathlib.Core.Bool.{Bool, true, false}
+use mathlib.Core.Bool.{false}
 use mathlib.Core.List.{List, [], _∷_}
 use Prim.Native.Nat.{ℕ, suc, _+_, _≤_}
 use native.Mathlib.Omega.{arith}
@@ -12,11 +12,11 @@ use Rattle.seq.specs.List.{All}
 use Rattle.seq.proofs.Order.{clash}
 use Rattle.store.specs.Store.{Reply, answer, left}
 use Rattle.store.specs.History.{Step}
+use Rattle.store.proofs.Laws.{either}
 use Rattle.store.proofs.Histories.{holds, Keeps, throughout-made}
-use Rattle.timer.specs.Timer.{Timer, timer, most, expire, statusGet}
+use Rattle.timer.specs.Timer.{Timer, most, statusGet}
 use Rattle.timer.specs.Post.{place}
-use Rattle.timer.specs.History.{Call, starting, stopping, expiring, reading, does, Promise, Always, Tally, expiries, reads, clears, NoneLost}
-use Rattle.timer.specs.History.{Alike, CountOnly}
+use Rattle.timer.specs.History.{Call, starting, stopping, expiring, reading, does, Promise, Always, Tally, expiries, reads, clears, NoneLost, CountOnly}
 use Rattle.timer.proofs.Answers.{by-expiry}
 
 abbrev expiry : List ℕ → Reply Timer → Step Call
@@ -68,8 +68,4 @@ tally h h' h'' es r k z m a b d =
     holds place statusGet h' [] (λ r t. (r ≡ pos (length es)) × (t .status ≡ 0)) (c .0) d (ap pos (c .1 a b), refl)
 
 pub count-only : CountOnly
-count-only n p q x y = go (ltb n most) refl
-  where
-    go : (b : Bool) → ltb n most ≡ b → Alike (expire (timer n p x)) (expire (timer n q y)) (timer n p x) (timer n q y)
-    go true e = rw e (refl, refl)
-    go false e = rw e (refl, refl)
+count-only n p q x y = either (ltb n most) (λ e. rw e (refl, refl)) (λ e. rw e (refl, refl))

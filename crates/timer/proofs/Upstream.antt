@@ -1,6 +1,6 @@
 -- Our contracts imply those of Gale's timer.rs. Assumes nothing.
 use mathlib.Core.Path.{_≡_, refl, sym, subst, _∙_}
-use mathlib.Core.Bool.{Bool, true, false}
+use mathlib.Core.Bool.{true}
 use mathlib.Core.List.{List, []}
 use mathlib.Core.Logic.{inl, inr}
 use Prim.Native.Nat.{ℕ, suc, _≤_, _<_}
@@ -12,7 +12,7 @@ use lib.ListN.{length, getD}
 use borrow.Author.Tests.{le-leb, lt-leb, leb-true, eqb-true, eqb-false}
 use Rattle.thread.specs.Code.{einval, eoverflow}
 use Rattle.store.specs.Store.{Reply, refuse, answer, left, Did, looks}
-use Rattle.store.proofs.Laws.{no-code, kept-bad, kept-no, looks-is, looks-bad}
+use Rattle.store.proofs.Laws.{either, no-code, kept-bad, kept-no, looks-is, looks-bad}
 use Rattle.store.proofs.Histories.{done, holds}
 use Rattle.timer.specs.Timer.{Timer, most, start, stop, expire, statusGet, count, ticks, runs}
 use Rattle.timer.specs.Post.{Starts, StartsRunning, Stops, Expires, GetsStatus, PeeksStatus, GetsPeriod, SaysRunning, place}
@@ -99,8 +99,6 @@ module _ (h h' : List ℕ) (r : ℤ) where
     period-get d = seen ticks d
 
     pub is-running : SaysRunning h r → IsRunning (place .object h []) r
-    is-running d = go (eqb (getD h 2 0) 0) refl
-      where
-        go : (b : Bool) → eqb (getD h 2 0) 0 ≡ b → IsRunning (place .object h []) r
-        go true e = inl (rw e at (seen runs d), eqb-true (getD h 2 0) 0 e)
-        go false e = inr (rw e at (seen runs d), eqb-false (getD h 2 0) 0 e)
+    is-running d =
+        either (eqb (getD h 2 0) 0) (λ e. inl (rw e at (seen runs d), eqb-true (getD h 2 0) 0 e))
+        (λ e. inr (rw e at (seen runs d), eqb-false (getD h 2 0) 0 e))
