@@ -1,7 +1,7 @@
 -- How each answer of a function meets the flags' definition. Assumes nothing.
 use mathlib.Core.Path.{_≡_, refl, sym, ap, _∙_}
 use mathlib.Core.Bool.{Bool, true, false}
-use mathlib.Core.List.{List, [], _∷_}
+use mathlib.Core.List.{List, []}
 use Prim.Native.Nat.{ℕ, _-_, _≤_, _<_}
 use native.Mathlib.Omega.{arith}
 use borrow.Author.Tests.{le-leb, lt-leb}
@@ -10,15 +10,14 @@ use lib.IntN.{ℤ, pos}
 use lib.ListN.{length, getD, set}
 use Rattle.thread.specs.Code.{ok, ebusy, einval}
 use Rattle.store.specs.Store.{Reply, refuse, accept, Becomes, Did, looks}
-use Rattle.store.proofs.Laws.{did-bad, did-yes, decides, looks-bad, looks-is, start-short, start-made}
+use Rattle.store.proofs.Laws.{did-bad, did-yes, wrote, decides, looks-bad, looks-is, start-short, start-made}
 use Rattle.event.specs.Event.{masked, post, setMasked, clear, matching, told, met, waits}
 use Rattle.event.specs.Event as event
 use Rattle.event.specs.Post.{Starts, Posts, Sets, SetsMasked, Clears, WaitDecided, place}
 use Rattle.event.proofs.Words.{or-is, and-is, and-not-is}
 
 becomes : (h : List ℕ) (e : ℕ) → 1 ≤ length h → Becomes place e h [] (set h 0 e) []
-becomes [] e k = absurd (omega arith)
-becomes (x ∷ t) e k = record { formed = le-leb 1 (length (e ∷ t)) (omega arith); object = refl; beside = refl; rest = refl; long = (refl, refl) }
+becomes h e k = wrote place (λ h. e) (λ h. set h 0 e) (λ x t. (refl, refl, refl)) h k (λ o l. le-leb 1 (length (set h 0 e)) (omega arith))
 
 module _ (h : List ℕ) where
   pub init-short : length h < 1 → Starts h einval h
@@ -32,7 +31,7 @@ module _ (h : List ℕ) where
 
   -- a word was stored, and a number answered: those of f
   module _ (k : 1 ≤ length h) where
-    stores : (f : ℕ → Reply ℕ) {e e' : ℕ} {r r' : ℤ} → f (getD h 0 0) ≡ accept e' r' → e ≡ e' → r ≡ r' → Did place f h [] r (set h 0 e) []
+    stores : (f : ℕ → Reply ℕ) {e e' : ℕ} {r r' : ℤ} → f (getD h 0 0) ≡ accept e' r' [] → e ≡ e' → r ≡ r' → Did place f h [] r (set h 0 e) []
     stores f {e' = e'} o p q = rw (p, q) (did-yes place f h [] (le-leb 1 (length h) k) o (becomes h e' k))
 
     module _ (b : getD h 0 0 < 4294967296) (x : ℕ) (bx : x < 4294967296) {r : ℤ} where
@@ -65,7 +64,7 @@ module _ (e d t : ℕ) (b : Bool) where
   no-type k = rw (lt-leb t 1 k)
 
   module _ (k : t ≤ 1) where
-    pub met-now : met t d e ≡ true → waits e d t b ≡ accept (matching d e) event.matched
+    pub met-now : met t d e ≡ true → waits e d t b ≡ accept (matching d e) event.matched []
     met-now p = rw (le-leb t 1 k, p)
 
     pub wait-matched : (m : ℕ) → d < 4294967296 → e < 4294967296 → met t d e ≡ true → WaitDecided e d t b m ok (bitAnd e d)
@@ -74,5 +73,5 @@ module _ (e d t : ℕ) (b : Bool) where
     pub wait-busy : met t d e ≡ false → b ≡ true → waits e d t b ≡ refuse ebusy
     wait-busy p q = rw (le-leb t 1 k, p, q)
 
-    pub wait-pends : met t d e ≡ false → b ≡ false → waits e d t b ≡ accept 0 event.pends
+    pub wait-pends : met t d e ≡ false → b ≡ false → waits e d t b ≡ accept 0 event.pends []
     wait-pends p q = rw (le-leb t 1 k, p, q)

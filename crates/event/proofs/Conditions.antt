@@ -14,7 +14,7 @@ use Rattle.seq.proofs.Masks.{bit-none}
 use Rattle.seq.proofs.Tests.{any-found, found-any, none-any, all-each, each-all}
 use Rattle.thread.specs.Code.{ebusy, einval}
 use Rattle.store.specs.Store.{refuse, accept, answer}
-use Rattle.store.proofs.Laws.{looks-is}
+use Rattle.store.proofs.Laws.{no-code, not-one, looks-is}
 use Rattle.event.specs.Event.{width, anyThere, allThere, matching, told, met, matched, pends}
 use Rattle.event.specs.Post.{place}
 use Rattle.event.specs.Waiting.{Conditions, Decides, Agree, None}
@@ -47,17 +47,18 @@ conditions d e =
 pub decides-wait : (e d t : ℕ) (b : Bool) → Decides e d t b
 decides-wait e d t b = record { over = met-now e d t b; only = go (leb t 1) (met t d e) b refl }
   where
-    go : (l m c : Bool) → leb t 1 ≡ l → answer (cond l (cond m (accept (matching d e) matched) (cond c (refuse ebusy) (accept 0 pends))) (refuse einval)) ≡ matched
+    go : (l m c : Bool) → leb t 1 ≡ l
+        → answer (cond l (cond m (accept (matching d e) matched []) (cond c (refuse ebusy) (accept 0 pends []))) (refuse einval)) ≡ matched
         → (t ≤ 1) × (m ≡ true)
     go true true c p z = (leb-true t 1 p, refl)
-    go true false true p z = absurd (let y : _≡_ {A = ℕ} 0 1 = cc in omega arith)
-    go true false false p z = absurd (let y : _≡_ {A = ℕ} 0 1 = cc in omega arith)
-    go false m c p z = absurd (let y : _≡_ {A = ℕ} 0 1 = cc in omega arith)
+    go true false true p z = no-code (sym z)
+    go true false false p z = not-one (sym z)
+    go false m c p z = no-code (sym z)
 
 -- on memory
 told-yes : (b : Bool) → told b ≡ pos 1 → b ≡ true
 told-yes true e = refl
-told-yes false e = absurd (let y : _≡_ {A = ℕ} 0 1 = cc in omega arith)
+told-yes false e = not-one e
 
 pub agree : (h : List ℕ) (d : ℕ) (b : Bool) → 1 ≤ length h → Agree h d b
 agree h d b k =
@@ -84,6 +85,6 @@ none-desired e b =
     record {
       all =
           met-now e 0 1 b (omega arith) (each-all width _ (λ i h. rw (bit-none i)))
-          ∙ ap (λ (n : ℕ). accept n matched) (sym (by-bits width 0 _ (omega arith) (λ i h. rw (bit-none i) (sym (and-none (bit i e))))));
+          ∙ ap (λ (n : ℕ). accept n matched []) (sym (by-bits width 0 _ (omega arith) (λ i h. rw (bit-none i) (sym (and-none (bit i e))))));
       any = (wait-busy e 0 0 true (omega arith) (any-none e) refl, wait-pends e 0 0 false (omega arith) (any-none e) refl);
     }

@@ -1,16 +1,19 @@
 -- What each call makes of each flag, and so any sequence of calls. Assumes nothing.
 use mathlib.Core.Path.{_≡_, refl, sym, ap, _∙_}
 use mathlib.Core.Bool.{Bool, true, false, cond, not, _&&_, _||_}
+use mathlib.Core.List.{List}
 use Prim.Native.Nat.{ℕ, _<_}
-use borrow.Author.Tests.{le-leb, leb-true}
-use lib.ListN.{length, getD}
+use borrow.Author.Tests.{le-leb}
+use lib.ListN.{length}
 use Rattle.seq.specs.Bits.{bit}
 use Rattle.seq.proofs.Bits.{bit-bits, bits-same, by-bits}
 use Rattle.seq.proofs.Masks.{bit-none, bit-full}
-use Rattle.store.proofs.Histories.{throughout}
+use Rattle.store.specs.History.{Step, Ran}
+use Rattle.store.proofs.Histories.{throughout, runs, from-start}
 use Rattle.event.specs.Event.{width}
 use Rattle.event.specs.Post.{place}
-use Rattle.event.specs.History.{Call, posting, setting, settingMasked, clearing, does, next, silent, there, says, heard, lastSaid, Promise, Always, FromInit, AllMasked}
+use Rattle.event.specs.History.{Call, posting, setting, settingMasked, clearing, does, next, silent, there, says, heard, Promise}
+use Rattle.event.specs.History.{Always, FromInit, AllMasked}
 
 said : (c d b : Bool) → cond c d b ≡ heard (cond c (there d) silent) b
 said true d b = refl
@@ -36,15 +39,14 @@ module _ (i : ℕ) (h : i < width) where
   bit-next (settingMasked x m) e = bit-bits width i _ h ∙ said (bit i m) (bit i x) (bit i e)
   bit-next (clearing x) e = bit-bits width i _ h ∙ and-cond (bit i e) (bit i x) ∙ said (bit i x) false (bit i e)
 
+told : (b : ℕ → Bool) {e : ℕ} → ((i : ℕ) → i < width → bit i e ≡ b i) → {es : List (Step Call)} {f : ℕ} → Ran does e es f → Promise b es f
+told b s m = throughout does (Promise b) (λ k es e o p i h. bit-next i h k e ∙ ap (heard (says k i)) (p i h)) s m
+
 pub always : Always
-always h h' es k m =
-    throughout place does (Promise (getD h 0 0)) (λ c es e p i b. bit-next i b c e ∙ ap (heard (says c i)) (p i b)) (le-leb 1 (length h) k)
-    (λ i b. refl) m .1
+always h h' es k m = told _ (λ i b. refl) (runs place does (le-leb 1 (length h) k) m .1)
 
 pub from-init : FromInit
-from-init h h₀ h' es s m i b =
-    let y = s .made refl in
-    always h₀ h' es (leb-true 1 (length h₀) (y .formed)) m i b ∙ ap (λ (z : Bool). lastSaid z i es) (ap (bit i) (y .object) ∙ bit-none i)
+from-init h h₀ h' es s m = told _ (λ i b. bit-none i) (from-start place does s m .1)
 
 pub all-masked : (e x : ℕ) → x < 4294967296 → AllMasked e x
 all-masked e x b =

@@ -1,6 +1,6 @@
 -- Our contracts imply those of Gale's event.rs. Assumes nothing.
 use mathlib.Core.Path.{_≡_, refl, sym, ap, _∙_}
-use mathlib.Core.Bool.{Bool, true, false, not}
+use mathlib.Core.Bool.{Bool}
 use mathlib.Core.Logic.{inl, inr}
 use mathlib.Core.List.{List, []}
 use Prim.Native.Nat.{ℕ, _≤_, _<_}
@@ -12,8 +12,9 @@ use lib.IntN.{ℤ, pos}
 use lib.ListN.{length, getD}
 use Rattle.seq.proofs.Bits.{bits-lt}
 use Rattle.thread.specs.Code.{ok, einval}
-use Rattle.store.specs.Store.{Reply, accept, answer, Did, looks}
-use Rattle.store.proofs.Laws.{became, answers, kept-bad, looks-is, looks-bad}
+use Rattle.store.specs.Store.{Reply, Did, looks}
+use Rattle.store.proofs.Laws.{either, kept-bad, looks-is, looks-bad}
+use Rattle.store.proofs.Histories.{holds-after}
 use Rattle.event.specs.Event.{width, post, set, setMasked, clear, anyThere, allThere, told}
 use Rattle.event.specs.Post.{Starts, Posts, Sets, SetsMasked, Clears, ChecksAny, ChecksAll, GetsEvents, place}
 use Rattle.event.specs.Upstream.{Inv, Init, Post, Set, SetMasked, Clear, WaitCheckAny, WaitCheckAll, EventsGet}
@@ -40,14 +41,8 @@ module _ (h : List ℕ) (r : ℤ) (h' : List ℕ) where
   get-refuses f k d = d ∙ looks-bad place h [] f (lt-leb 1 (length h) k)
 
   module _ (k : 1 ≤ length h) where
-    -- the word that a call leaves, and its answer
-    did : (f : ℕ → Reply ℕ) (e : ℕ) (a : ℤ) → f (getD h 0 0) ≡ accept e a → Did place f h [] r h' [] → (getD h' 0 0 ≡ e) × (r ≡ a)
-    did f e a o d =
-        let s = le-leb 1 (length h) k in
-        (became place f h [] d s o .object, answers place f h [] d s ∙ ap answer o)
-
     pub event-set : (x : ℕ) → Inv x → Sets x h r h' → Set x (getD h 0 0) r (getD h' 0 0)
-    event-set x i d = let y = did (set x) x (pos (getD h 0 0)) refl d in record { inv = rw (y .0) i; events = y .0; result = y .1 }
+    event-set x i d = holds-after place (set x) h [] (Set x (getD h 0 0)) (le-leb 1 (length h) k) d (record { inv = i; events = refl; result = refl })
 
     pub event-events-get : GetsEvents h r → EventsGet (getD h 0 0) r
     event-events-get e = e ∙ looks-is place h [] (λ e. pos e) (le-leb 1 (length h) k)
@@ -55,39 +50,35 @@ module _ (h : List ℕ) (r : ℤ) (h' : List ℕ) where
     module _ (x : ℕ) (he : Inv (getD h 0 0)) (hx : Inv x) where
       pub event-post : Posts x h r h' → Post x (getD h 0 0) r (getD h' 0 0)
       event-post d =
-          let y = did (post x) _ _ refl d in
-          let p = y .0 ∙ sym (or-is x (getD h 0 0) hx he) in
-          record {
-            inv = rw (y .0) (bits-lt width _);
+          let p = sym (or-is x (getD h 0 0) hx he) in
+          holds-after place (post x) h [] (Post x (getD h 0 0)) (le-leb 1 (length h) k) d
+          (record {
+            inv = bits-lt width _;
             events = p;
-            result = y .1 ∙ ap pos (sym (y .0));
+            result = refl;
             monotonic = ap (bitAnd (getD h 0 0)) p ∙ and-comm (getD h 0 0) (bitOr (getD h 0 0) x) ∙ post-monotonic (getD h 0 0) x he hx .words;
-          }
+          })
 
       pub event-clear : Clears x h r h' → Clear x (getD h 0 0) r (getD h' 0 0)
       event-clear d =
-          let y = did (clear x) _ _ refl d in
-          record { inv = rw (y .0) (bits-lt width _); events = y .0 ∙ sym (and-not-is x (getD h 0 0) hx he); result = y .1 ∙ ap pos (sym (y .0)) }
+          holds-after place (clear x) h [] (Clear x (getD h 0 0)) (le-leb 1 (length h) k) d
+          (record { inv = bits-lt width _; events = sym (and-not-is x (getD h 0 0) hx he); result = refl })
 
       pub event-set-masked : (m : ℕ) → Inv m → SetsMasked x m h r h' → SetMasked x m (getD h 0 0) r (getD h' 0 0)
       event-set-masked m hm d =
-          let y = did (setMasked x m) _ _ refl d in
-          record { inv = rw (y .0) (bits-lt width _); events = y .0 ∙ sym (replaced-is x m (getD h 0 0) hx hm he); result = y .1 }
+          holds-after place (setMasked x m) h [] (SetMasked x m (getD h 0 0)) (le-leb 1 (length h) k) d
+          (record { inv = bits-lt width _; events = sym (replaced-is x m (getD h 0 0) hx hm he); result = refl })
 
       -- a test on memory is the test on words
       tells : (f : ℕ → Bool) (b : Bool) → b ≡ f (getD h 0 0) → r ≡ looks place (λ e. told (f e)) h [] → r ≡ told b
       tells f b p e = e ∙ looks-is place h [] (λ e. told (f e)) (le-leb 1 (length h) k) ∙ ap told (sym p)
 
       pub event-wait-check-any : ChecksAny x h r → WaitCheckAny x (getD h 0 0) r
-      event-wait-check-any e = go (eqb (bitAnd (getD h 0 0) x) 0) refl (tells (anyThere x) _ (any-is x (getD h 0 0) hx he) e)
-        where
-          go : (b : Bool) → eqb (bitAnd (getD h 0 0) x) 0 ≡ b → r ≡ told (not b) → WaitCheckAny x (getD h 0 0) r
-          go true p q = inr (q, λ n. n (eqb-true _ 0 p))
-          go false p q = inl (q, eqb-false _ 0 p)
+      event-wait-check-any e =
+          let q = tells (anyThere x) _ (any-is x (getD h 0 0) hx he) e in
+          either (eqb (bitAnd (getD h 0 0) x) 0) (λ p. inr (rw p at q, λ n. n (eqb-true _ 0 p))) (λ p. inl (rw p at q, eqb-false _ 0 p))
 
       pub event-wait-check-all : ChecksAll x h r → WaitCheckAll x (getD h 0 0) r
-      event-wait-check-all e = go (eqb (bitAnd (getD h 0 0) x) x) refl (tells (allThere x) _ (all-is x (getD h 0 0) hx he) e)
-        where
-          go : (b : Bool) → eqb (bitAnd (getD h 0 0) x) x ≡ b → r ≡ told b → WaitCheckAll x (getD h 0 0) r
-          go true p q = inl (q, eqb-true _ x p)
-          go false p q = inr (q, eqb-false _ x p)
+      event-wait-check-all e =
+          let q = tells (allThere x) _ (all-is x (getD h 0 0) hx he) e in
+          either (eqb (bitAnd (getD h 0 0) x) x) (λ p. inl (rw p at q, eqb-true _ x p)) (λ p. inr (rw p at q, eqb-false _ x p))

@@ -1,5 +1,6 @@
 -- Event flags: 32 flags, one in each bit of a word.
 use mathlib.Core.Bool.{Bool, true, cond, not, _&&_, _||_}
+use mathlib.Core.List.{[]}
 use Prim.Native.Nat.{ℕ}
 use lib.Dec.{eqb, leb}
 use lib.IntN.{ℤ, pos}
@@ -24,16 +25,16 @@ cleared gone e = bits width (λ i. bit i e && not (bit i gone))
 
 -- what a call leaves, and what it answers: the new flags, or the old ones
 abbrev pub post : ℕ → ℕ → Reply ℕ
-post new e = accept (posted new e) (pos (posted new e))
+post new e = accept (posted new e) (pos (posted new e)) []
 
 abbrev pub set : ℕ → ℕ → Reply ℕ
-set new e = accept new (pos e)
+set new e = accept new (pos e) []
 
 abbrev pub setMasked : (new mask : ℕ) → ℕ → Reply ℕ
-setMasked new mask e = accept (masked new mask e) (pos e)
+setMasked new mask e = accept (masked new mask e) (pos e) []
 
 abbrev pub clear : ℕ → ℕ → Reply ℕ
-clear gone e = accept (cleared gone e) (pos (cleared gone e))
+clear gone e = accept (cleared gone e) (pos (cleared gone e)) []
 
 -- one desired flag is there
 abbrev pub anyThere : (desired e : ℕ) → Bool
@@ -71,5 +72,5 @@ pends = pos 1
 -- what a wait is to do, and the flags for which it is over
 abbrev pub waits : (e desired type : ℕ) → (noWait : Bool) → Reply ℕ
 waits e desired type noWait =
-    cond (leb type waitAll) (cond (met type desired e) (accept (matching desired e) matched) (cond noWait (refuse ebusy) (accept 0 pends)))
+    cond (leb type waitAll) (cond (met type desired e) (accept (matching desired e) matched []) (cond noWait (refuse ebusy) (accept 0 pends [])))
     (refuse einval)

@@ -1,13 +1,13 @@
 -- What holds of event flags after any sequence of calls.
 use mathlib.Core.Path.{_≡_}
 use mathlib.Core.Bool.{Bool, true, false, cond}
-use mathlib.Core.List.{List, [], _∷_}
+use mathlib.Core.List.{List, []}
 use Prim.Native.Nat.{ℕ, _≤_, _<_}
 use lib.ListN.{length, getD}
 use Rattle.seq.specs.Bits.{bit}
 use Rattle.thread.specs.Code.{ok}
 use Rattle.store.specs.Store.{Reply, left}
-use Rattle.store.specs.History.{Event, Run}
+use Rattle.store.specs.History.{Step, after, Made}
 use Rattle.event.specs.Event.{width, post, set, setMasked, clear, posted, masked, cleared}
 use Rattle.event.specs.Post.{Starts, place}
 
@@ -42,24 +42,22 @@ abbrev pub heard : Remark → Bool → Bool
 heard silent b = b
 heard (there c) b = c
 
--- what the last call that spoke of flag i said, in the events of which the last is in front; b, if none did
-abbrev pub lastSaid : Bool → ℕ → List (Event Call) → Bool
-lastSaid b i [] = b
-lastSaid b i (e ∷ es) = heard (says (e .call) i) (lastSaid b i es)
+-- what the last call that spoke of flag i said; b, if none did
+abbrev pub lastSaid : Bool → ℕ → List (Step Call) → Bool
+lastSaid b i es = after (λ (c : Bool) (e : Step Call). heard (says (e .call) i) c) b es
 
--- e were the flags before the events es, f are the flags after them: a flag is there exactly if the last call that spoke of it put it there
-abbrev pub Promise : ℕ → List (Event Call) → ℕ → Type 0
-Promise e es f = (i : ℕ) → i < width → bit i f ≡ lastSaid (bit i e) i es
+-- before the steps es a flag i was there if b i says so; f are the flags after them: a flag is there exactly if the last call that spoke of it
+-- put it there
+abbrev pub Promise : (b : ℕ → Bool) → List (Step Call) → ℕ → Type 0
+Promise b es f = (i : ℕ) → i < width → bit i f ≡ lastSaid (b i) i es
 
--- any events, in memory
+-- any steps, in memory
 abbrev pub Always : Type 0
-Always = (h h' : List ℕ) (es : List (Event Call)) → 1 ≤ length h → Run place does h [] es h' [] → Promise (getD h 0 0) es (getD h' 0 0)
+Always = (h h' : List ℕ) (es : List (Step Call)) → 1 ≤ length h → Made place does h [] es h' [] → Promise (λ i. bit i (getD h 0 0)) es (getD h' 0 0)
 
 -- and from an init on, where no flag is there
 abbrev pub FromInit : Type 0
-FromInit =
-    (h h₀ h' : List ℕ) (es : List (Event Call)) → Starts h ok h₀ → Run place does h₀ [] es h' []
-    → (i : ℕ) → i < width → bit i (getD h' 0 0) ≡ lastSaid false i es
+FromInit = (h h₀ h' : List ℕ) (es : List (Step Call)) → Starts h ok h₀ → Made place does h₀ [] es h' [] → Promise (λ i. false) es (getD h' 0 0)
 
 -- each call is one that replaces the flags of a mask, as post_decide does
 pub record AllMasked (e x : ℕ) : Type 0 where

@@ -26,7 +26,7 @@ pub record Conditions (desired e : ℕ) : Type 0 where
 
 -- a wait is over at once exactly if its condition holds, and then with the flags that match
 pub record Decides (e desired type : ℕ) (noWait : Bool) : Type 0 where
-  pub over : type ≤ waitAll → met type desired e ≡ true → waits e desired type noWait ≡ accept (matching desired e) matched
+  pub over : type ≤ waitAll → met type desired e ≡ true → waits e desired type noWait ≡ accept (matching desired e) matched []
   pub only : answer (waits e desired type noWait) ≡ matched → (type ≤ waitAll) × (met type desired e ≡ true)
 
 -- so on the flags in memory the tests and the decision agree
@@ -39,9 +39,9 @@ pub record Agree (h : List ℕ) (desired : ℕ) (noWait : Bool) : Type 0 where
 -- waiting for no flag at all
 pub record None (e : ℕ) (noWait : Bool) : Type 0 where
   -- for all of none: over at once, with no flag
-  pub all : waits e 0 waitAll noWait ≡ accept 0 matched
+  pub all : waits e 0 waitAll noWait ≡ accept 0 matched []
   -- for any of none: never
-  pub any : (waits e 0 waitAny true ≡ refuse ebusy) × (waits e 0 waitAny false ≡ accept 0 pends)
+  pub any : (waits e 0 waitAny true ≡ refuse ebusy) × (waits e 0 waitAny false ≡ accept 0 pends [])
 
 -- what a call does to a wait
 pub record Calls (e desired : ℕ) : Type 0 where

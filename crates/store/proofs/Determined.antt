@@ -54,6 +54,10 @@ module _ {S : Type 0} {P : Place S} (t : Faithful P) (h b : List ℕ) where
     pub hands-only : (x : ℕ) → Only (λ ((r, h', x') : ℤ × List ℕ × ℕ). Hands P f h b x r h' x')
     hands-only x = and _ _ reads-only (said _)
 
+    -- and the header is not written
+    pub tells-only : (x : ℕ) → Only (λ ((r, x') : ℤ × ℕ). Hands P f h b x r h x')
+    tells-only x y z m n = let q = hands-only x (y .0, h, y .1) (z .0, h, z .1) m n in λ i. (q i .0, q i .2)
+
   module _ (may : Bool) (s : S) where
     pub started-only : Only (λ ((r, h', b') : Outcome). Started P may s h b r h' b')
     started-only x y m n =

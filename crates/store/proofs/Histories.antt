@@ -98,8 +98,11 @@ allowed {P = P} {m} {h = h} x = go (leb (P .words) (length h)) m (x .code)
     go false m e = absurd (let y : _≡_ {A = ℕ} 0 1 = cc in omega arith)
 
 -- what each step keeps holds after any of them
-module _ {S K : Type 0} (does : K → S → Reply S) (I : List (Step K) → S → Type 0)
-    (keeps : (k : K) (ss : List (Step K)) (s : S) (o : List ℕ) → I ss s → I (record { call = k; answer = answer (does k s); out = o } ∷ ss) (left (does k s) s)) where
+module _ {S K : Type 0} (does : K → S → Reply S) (I : List (Step K) → S → Type 0) where
+  abbrev pub Keeps : K → Type 0
+  Keeps k = (ss : List (Step K)) (s : S) (o : List ℕ) → I ss s → I (record { call = k; answer = answer (does k s); out = o } ∷ ss) (left (does k s) s)
+
+module _ {S K : Type 0} (does : K → S → Reply S) (I : List (Step K) → S → Type 0) (keeps : (k : K) → Keeps does I k) where
   pub throughout : {s₀ : S} → I [] s₀ → {ss : List (Step K)} {s : S} → Ran does s₀ ss s → I ss s
   throughout i fresh = i
   throughout i (ran {ss} {s} {k} o o' m f) = keeps k ss s o' (throughout i m)

@@ -4,10 +4,12 @@ use mathlib.Core.Bool.{Bool, true, false, not-eq-not}
 use mathlib.Core.List.{List, [], _∷_}
 use Prim.Native.Nat.{ℕ, _<_, _≤_}
 use native.Mathlib.Omega.{arith}
-use borrow.Author.Tests.{lt-leb, le-leb}
+use lib.Dec.{ltb}
+use borrow.Author.Tests.{ltb-true, ltb-false, lt-leb, le-leb}
 use lib.IntN.{ℤ, pos, negsuc}
-use lib.ListN.{length}
+use lib.ListN.{length, drop}
 use Rattle.seq.specs.List.{any}
+use Rattle.seq.proofs.Words.{Each, by-words}
 pub use Rattle.seq.proofs.Order.{both-true}
 use Rattle.thread.specs.Code.{ok, einval}
 use Rattle.store.specs.Store.{Reply, refuse, accept, answer, left, out, carry, Decided, Place, reply, Becomes, After, Did, looks, Filled, first, Fills, Hands, Started}
@@ -24,8 +26,20 @@ any-none (x ∷ l) f = absurd (omega arith)
 pub refuted : {b : Bool} → (b ≡ true → ⊥) → b ≡ false
 refuted n = not-eq-not .0 n
 
-pub no-code : {n : ℕ} → pos 0 ≡ negsuc n → ⊥
-no-code z = let y : _≡_ {A = ℕ} 0 1 = cc in omega arith
+-- a test, and of two numbers which is less
+pub either : {P : Type 0} (b : Bool) → (b ≡ true → P) → (b ≡ false → P) → P
+either true f g = f refl
+either false f g = g refl
+
+pub less : {P : Type 0} (m n : ℕ) → (m < n → P) → (n ≤ m → P) → P
+less m n f g = either (ltb m n) (λ e. f (ltb-true m n e)) (λ e. g (ltb-false m n e))
+
+-- no answer is two
+pub no-code : {P : Type 0} {m n : ℕ} → pos m ≡ negsuc n → P
+no-code z = absurd (let y : _≡_ {A = ℕ} 0 1 = cc in omega arith)
+
+pub not-one : {P : Type 0} → pos 0 ≡ pos 1 → P
+not-one z = absurd (let y : _≡_ {A = ℕ} 0 1 = cc in omega arith)
 
 module _ {S : Type 0} (P : Place S) (f : S → Reply S) (h b : List ℕ) where
   -- by the reply
@@ -91,6 +105,14 @@ module _ {S : Type 0} (P : Place S) (f : S → Reply S) (h b : List ℕ) where
         → Hands P f h b x r h' (first x l)
     hands-yes e y m = (did-yes e y m, rw (replies e, y) refl)
 
+    -- it is told, and nothing changes
+    pub hands-look : {r : ℤ} {l : List ℕ} → P .formed h b ≡ true → f (P .object h b) ≡ accept (P .object h b) r l → Hands P f h b x r h (first x l)
+    hands-look e y = hands-yes e y (record { formed = e; object = refl; beside = refl; rest = refl; long = (refl, refl) })
+
+    -- what a caller was told
+    pub handed : {y : Reply S} {r : ℤ} {h' : List ℕ} {x' : ℕ} → reply P f h b ≡ y → Hands P f h b x r h' x' → (r ≡ answer y) × (x' ≡ first x (out y))
+    handed e d = (d .0 .code ∙ ap answer e, d .1 ∙ ap (λ (z : Reply S). first x (out z)) e)
+
   module _ {r : ℤ} {h' b' : List ℕ} (d : Did P f h b r h' b') where
     -- what a caller knows of an operation that was done
     pub became-so : {s : S} {a : ℤ} {l : List ℕ} → reply P f h b ≡ accept s a l → (r ≡ a) × Becomes P s h b h' b'
@@ -111,6 +133,10 @@ module _ {S : Type 0} (P : Place S) (f : S → Reply S) (h b : List ℕ) where
 
     pub kept-no : {c : ℤ} → P .formed h b ≡ true → f (P .object h b) ≡ refuse c → (r ≡ c) × (h' ≡ h) × (b' ≡ b)
     kept-no e o = kept (replies e ∙ o)
+
+  -- what was not refused was not malformed
+  pub found : {n : ℕ} {h' b' : List ℕ} → Did P f h b (pos n) h' b' → P .formed h b ≡ true
+  found d = either (P .formed h b) (λ e. e) (λ e. no-code (kept-bad d e .0))
 
 -- what is carried over hands out the same
 pub carry-out : {N S : Type 0} (f : N → S) (y : Reply N) → out (carry f y) ≡ out y
@@ -135,6 +161,17 @@ pub becomes-back : {S : Type 0} (P : Place S) {s : S} {h b h' b' : List ℕ} →
     → Becomes P (P .object h b) h' b' h b
 becomes-back P e z m =
     record { formed = e; object = refl; beside = sym (m .beside); rest = sym (rw z at (m .rest)); long = (sym (m .long .0), sym (m .long .1)) }
+
+-- w h is what stores to the object's own words make of the header h, where there is no buffer: the object is s h then
+module _ {S : Type 0} (P : Place S) (s : List ℕ → S) (w : List ℕ → List ℕ) where
+  abbrev pub Written : Type 0
+  Written = Each (P .words) (λ h. (P .object (w h) [] ≡ s h) × (drop (P .words) (w h) ≡ drop (P .words) h) × (length (w h) ≡ length h))
+
+  pub wrote : Written → (h : List ℕ) → P .words ≤ length h → (P .object (w h) [] ≡ s h → length (w h) ≡ length h → P .formed (w h) [] ≡ true)
+      → Becomes P (s h) h [] (w h) []
+  wrote e h k f =
+      let a = by-words (P .words) _ e h k in
+      record { formed = f (a .0) (a .2); object = a .0; beside = a .1; rest = refl; long = (a .2, refl) }
 
 -- what is decided on plain numbers, or declined
 module _ {d : Reply ℕ} {a : ℤ} where
@@ -161,11 +198,11 @@ module _ {S : Type 0} (P : Place S) (h b : List ℕ) where
 module _ {S : Type 0} {P : Place S} {may : Bool} {s : S} {h b : List ℕ} where
   -- a header that is too short
   pub start-short : length h < P .words → Started P may s h b einval h b
-  start-short e = record { code = rw (lt-leb (P .words) (length h) e); made = λ p. absurd (no-code (sym p)); kept = λ n p. (refl, refl) }
+  start-short e = record { code = rw (lt-leb (P .words) (length h) e); made = λ p. no-code (sym p); kept = λ n p. (refl, refl) }
 
   -- numbers that may not be
   pub start-bad : P .words ≤ length h → may ≡ false → Started P may s h b einval h b
-  start-bad e m = record { code = rw (le-leb (P .words) (length h) e, m); made = λ p. absurd (no-code (sym p)); kept = λ n p. (refl, refl) }
+  start-bad e m = record { code = rw (le-leb (P .words) (length h) e, m); made = λ p. no-code (sym p); kept = λ n p. (refl, refl) }
 
   pub start-made : {h' b' : List ℕ} → P .words ≤ length h → may ≡ true → Becomes P s h b h' b' → Started P may s h b ok h' b'
-  start-made e m x = record { code = rw (le-leb (P .words) (length h) e, m); made = λ p. x; kept = λ n p. absurd (no-code p) }
+  start-made e m x = record { code = rw (le-leb (P .words) (length h) e, m); made = λ p. x; kept = λ n p. no-code p }

@@ -1,21 +1,20 @@
 -- What one call does to a timeout: it sets a deadline, aborts, moves the clock, fires, or nothing changes. Assumes nothing.
 use mathlib.Core.Path.{_≡_, refl}
-use mathlib.Core.Bool.{Bool, true, false, cond}
+use mathlib.Core.Bool.{true, false}
 use mathlib.Core.List.{List, [], _∷_}
-use Prim.Native.Nat.{ℕ, _+_, _-_, _≤_, _<_}
+use Prim.Native.Nat.{ℕ, _+_, _≤_, _<_}
 use native.Mathlib.Omega.{arith}
-use lib.Dec.{ltb, leb}
 use lib.IntN.{pos, negsuc}
-use borrow.Author.Tests.{ltb-true, ltb-false, leb-true}
-use Rattle.thread.specs.Code.{ok}
+use Rattle.thread.specs.Code.{ok, einval}
 use Rattle.store.specs.Store.{Reply, refuse, accept, answer, left}
-use Rattle.store.specs.History.{Event, Run}
-use Rattle.store.proofs.Laws.{both-true}
-use Rattle.store.proofs.Histories.{throughout}
-use Rattle.timeout.specs.Timeout.{Timeout, timeout, never, later, fires, absolute, arm, abort, announce}
+use Rattle.store.specs.History.{Step, Made}
+use Rattle.store.proofs.Laws.{less}
+use Rattle.store.proofs.Histories.{throughout-made}
+use Rattle.timeout.specs.Timeout.{Timeout, timeout, never, isActive, fires, arm}
 use Rattle.timeout.specs.Post.{place}
 use Rattle.timeout.specs.History.{Call, adding, addingAbsolute, addingForever, addingNoWait, aborting, announcing, does}
-use Rattle.timeout.proofs.Whole.{set-busy, set-no, set-is, abort-no, abort-is, announce-late, announce-quiet, announce-rings}
+use Rattle.timeout.proofs.Numbers.{add-late, add-in-time, absolute-behind, absolute-far, absolute-is}
+use Rattle.timeout.proofs.Whole.{set-busy, set-no, set-is, abort-no, abort-is, by-announce}
 
 -- the deadline x of a call that adds, with the clock at c
 pub data Addition (c : ℕ) : Call → ℕ → Type 0 where
@@ -25,48 +24,41 @@ pub data Addition (c : ℕ) : Call → ℕ → Type 0 where
   no-wait : Addition c addingNoWait 0
 
 -- the call, and the reply
-pub data Does (d a c : ℕ) : Call → Reply Timeout → Type 0 where
-  refuses : {k : Call} (m : ℕ) → Does d a c k (refuse (negsuc m))
-  sets : {k : Call} {x : ℕ} → a ≡ 0 → Addition c k x → Does d a c k (accept (timeout x 1 c) ok)
-  aborts : 0 < a → Does d a c aborting (accept (timeout d 0 c) ok)
-  moves-on : {n : ℕ} → c + n < never → fires (ltb 0 a) d (c + n) ≡ false → Does d a c (announcing n) (accept (timeout d a (c + n)) ok)
-  rings : {n : ℕ} → c + n < never → fires (ltb 0 a) d (c + n) ≡ true → Does d a c (announcing n) (accept (timeout d 0 (c + n)) (pos 1))
+pub data Does (t : Timeout) : Call → Reply Timeout → Type 0 where
+  refuses : {k : Call} (m : ℕ) → Does t k (refuse (negsuc m))
+  sets : {k : Call} {x : ℕ} {l : List ℕ} → t .active ≡ 0 → Addition (t .clock) k x → Does t k (accept (timeout x 1 (t .clock)) ok l)
+  aborts : 0 < t .active → Does t aborting (accept (timeout (t .deadline) 0 (t .clock)) ok [])
+  moves-on : {n : ℕ} → t .clock + n < never → fires (isActive t) (t .deadline) (t .clock + n) ≡ false
+      → Does t (announcing n) (accept (timeout (t .deadline) (t .active) (t .clock + n)) ok [])
+  rings : {n : ℕ} → t .clock + n < never → fires (isActive t) (t .deadline) (t .clock + n) ≡ true
+      → Does t (announcing n) (accept (timeout (t .deadline) 0 (t .clock + n)) (pos 1) [])
 
-module _ (d a c : ℕ) where
-  -- a deadline x, if the test b says so
-  which-set : {k : Call} (b : Bool) (x : ℕ) → (b ≡ true → Addition c k x) → (y : Reply ℕ) → y ≡ cond b (accept x ok) (refuse (negsuc 21)) → Does d a c k (arm y (timeout d a c))
-  which-set {k} b x i y e = go (ltb 0 a) b refl refl e
-    where
-      go : (f p : Bool) → ltb 0 a ≡ f → b ≡ p → y ≡ cond p (accept x ok) (refuse (negsuc 21)) → Does d a c k (arm y (timeout d a c))
-      go true p g z e = rw (set-busy d a c y (ltb-true 0 a g)) (refuses 15)
-      go false true g z e = let k : a ≡ 0 = omega (arith, ltb-false 0 a g) in rw (set-is d a c y k e) (sets k (i z))
-      go false false g z e = rw (set-no d a c y (omega (arith, ltb-false 0 a g)) e) (refuses 21)
+module _ (t : Timeout) where
+  module _ {k : Call} (y : Reply ℕ) where
+    set-none : y ≡ refuse einval → Does t k (arm y t)
+    set-none e = less 0 (t .active) (λ g. rw (set-busy t y g) (refuses 15)) (λ g. rw (set-no t y (omega arith) e) (refuses 21))
 
-  in-turn : (p q : Bool) {A : Type 0} (x y : A) → cond p (cond q x y) y ≡ cond (cond p q false) x y
-  in-turn true q x y = refl
-  in-turn false q x y = refl
+    set-one : {x : ℕ} {l : List ℕ} → Addition (t .clock) k x → y ≡ accept x ok l → Does t k (arm y t)
+    set-one i e =
+        less 0 (t .active) (λ g. rw (set-busy t y g) (refuses 15))
+        (λ g. let z : t .active ≡ 0 = omega arith in rw (set-is t y z e) (sets z i))
 
-  pub which : (k : Call) → Does d a c k (does k (timeout d a c))
-  which (adding n) = which-set (ltb (c + n) never) (c + n) (λ e. relative) (later ok c n) refl
-  which (addingAbsolute x) = which-set (cond (leb c x) (ltb x never) false) x (λ e. absolutely (leb-true c x (both-true (leb c x) (ltb x never) e .0))) (absolute x c) (in-turn (leb c x) (ltb x never) (accept x ok) (refuse (negsuc 21)))
-  which addingForever = which-set true never (λ e. forever) (accept never ok) refl
-  which addingNoWait = which-set true 0 (λ e. no-wait) (accept 0 ok) refl
-  which aborting = go (ltb 0 a) refl
-    where
-      go : (b : Bool) → ltb 0 a ≡ b → Does d a c aborting (abort (timeout d a c))
-      go true e = rw (abort-is d a c (ltb-true 0 a e)) (aborts (ltb-true 0 a e))
-      go false e = rw (abort-no d a c (omega (arith, ltb-false 0 a e))) (refuses 21)
-  which (announcing n) = go (ltb (c + n) never) (fires (ltb 0 a) d (c + n)) refl refl
-    where
-      go : (p q : Bool) → ltb (c + n) never ≡ p → fires (ltb 0 a) d (c + n) ≡ q → Does d a c (announcing n) (announce n (timeout d a c))
-      go false q e f = rw (announce-late d a c n (omega (arith, ltb-false (c + n) never e))) (refuses 21)
-      go true false e f = rw (announce-quiet d a c n (omega (arith, ltb-true (c + n) never e)) f) (moves-on (ltb-true (c + n) never e) f)
-      go true true e f = rw (announce-rings d a c n (omega (arith, ltb-true (c + n) never e)) f) (rings (ltb-true (c + n) never e) f)
+  pub which : (k : Call) → Does t k (does k t)
+  which (adding n) = less (t .clock + n) never (λ k. set-one _ relative (add-in-time (t .clock) n k)) (λ k. set-none _ (add-late (t .clock) n k))
+  which (addingAbsolute x) =
+      less x (t .clock) (λ k. set-none _ (absolute-behind x (t .clock) k))
+      (λ k. less x never (λ j. set-one _ (absolutely k) (absolute-is x (t .clock) k j)) (λ j. set-none _ (absolute-far x (t .clock) j)))
+  which addingForever = set-one _ forever refl
+  which addingNoWait = set-one _ no-wait refl
+  which aborting = less 0 (t .active) (λ k. rw (abort-is t k) (aborts k)) (λ k. rw (abort-no t (omega arith)) (refuses 21))
+  which (announcing n) = by-announce t n (Does t (announcing n)) (λ k. refuses 21) (λ k e. moves-on k e) (λ k e. rings k e)
 
 -- an invariant that each of these keeps is kept by any calls
-module _ (I : List (Event Call) → Timeout → Type 0)
-    (keeps : (es : List (Event Call)) (d a c : ℕ) → I es (timeout d a c) → (k : Call) (y : Reply Timeout) → Does d a c k y
-    → I (record { call = k; answer = answer y } ∷ es) (left y (timeout d a c))) where
-  pub holds : {h h' : List ℕ} {es : List (Event Call)} → place .formed h [] ≡ true → I [] (place .object h []) → Run place does h [] es h' []
-      → (place .formed h' [] ≡ true) × I es (place .object h' [])
-  holds e i m = throughout place does I (λ k es t i. keeps es (t .deadline) (t .active) (t .clock) i k (does k t) (which (t .deadline) (t .active) (t .clock) k)) e i m
+abbrev pub Keeps : (List (Step Call) → Timeout → Type 0) → Type 0
+Keeps I =
+    (es : List (Step Call)) (t : Timeout) (o : List ℕ) → I es t → (k : Call) (y : Reply Timeout) → Does t k y
+    → I (record { call = k; answer = answer y; out = o } ∷ es) (left y t)
+
+pub always-keeps : (I : List (Step Call) → Timeout → Type 0) → Keeps I → {h h' : List ℕ} {es : List (Step Call)} → place .formed h [] ≡ true
+    → I [] (place .object h []) → Made place does h [] es h' [] → (place .formed h' [] ≡ true) × I es (place .object h' [])
+always-keeps I keeps e i m = throughout-made does I (λ k es t o i. keeps es t o i k (does k t) (which t k)) place e i m

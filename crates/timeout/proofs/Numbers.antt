@@ -1,31 +1,33 @@
 -- What is decided on plain numbers. Assumes nothing.
-use mathlib.Core.Path.{_≡_, refl, sym}
-use mathlib.Core.Bool.{Bool, true, false, cond}
+use mathlib.Core.Path.{_≡_, sym, _∙_}
+use mathlib.Core.Bool.{Bool, true, false}
+use mathlib.Core.List.{[], _∷_}
 use mathlib.Core.Logic.{_⊎_, inl, inr}
 use Prim.Native.Nat.{ℕ, _+_, _-_, _≤_, _<_}
-use native.Mathlib.Omega.{arith}
 use lib.Dec.{eqb, ltb, leb}
-use lib.IntN.{ℤ, pos, negsuc}
-use borrow.Author.Tests.{ltb-true, ltb-false, leb-true, leb-false, lt-ltb, le-ltb, le-leb, lt-leb, ne-eqb}
-use Rattle.seq.proofs.Order.{clash, cond-same}
+use lib.IntN.{ℤ, pos}
+use borrow.Author.Tests.{ltb-true, leb-true, lt-ltb, le-ltb, le-leb, lt-leb, ne-eqb}
+use Rattle.seq.proofs.Order.{clash, cond-same, both-true}
 use Rattle.thread.specs.Code.{ok, einval}
 use Rattle.store.specs.Store.{refuse, accept}
-use Rattle.timeout.specs.Timeout.{never, later, fires, right, absolute, announces, announceDecide, until}
-
--- no code is two
-pub two-codes : {P : Type 0} {m n : ℕ} → pos m ≡ negsuc n → P
-two-codes e = absurd (let y : _≡_ {A = ℕ} 0 1 = cc in omega arith)
-
-pub not-one : {P : Type 0} → pos 0 ≡ pos 1 → P
-not-one e = absurd (let y : _≡_ {A = ℕ} 0 1 = cc in omega arith)
+use Rattle.store.proofs.Laws.{either, less}
+use Rattle.timeout.specs.Timeout.{never, later, fires, right, addDecide, absolute, announces, announceDecide, until}
 
 -- a sum that would reach never, and any other
-module _ (a : ℤ) (c n : ℕ) where
-  pub too-late : never - c ≤ n → later a c n ≡ refuse einval
-  too-late k = rw (le-ltb (c + n) never (omega arith))
+module _ (c n : ℕ) where
+  module _ (k : never ≤ c + n) where
+    pub too-late : (a : ℤ) → later a c n ≡ refuse einval
+    too-late a = rw (le-ltb (c + n) never k)
 
-  pub in-time : n < never - c → later a c n ≡ accept (c + n) a
-  in-time k = rw (lt-ltb (c + n) never (omega arith))
+    pub add-late : addDecide c n ≡ refuse einval
+    add-late = rw (le-ltb (c + n) never k)
+
+  module _ (k : c + n < never) where
+    pub in-time : (a : ℤ) → later a c n ≡ accept (c + n) a []
+    in-time a = rw (lt-ltb (c + n) never k)
+
+    pub add-in-time : addDecide c n ≡ accept (c + n) ok ((c + n) ∷ [])
+    add-in-time = rw (lt-ltb (c + n) never k)
 
 module _ (b : Bool) (d n : ℕ) where
   pub fires-idle : b ≡ false → fires b d n ≡ false
@@ -34,26 +36,20 @@ module _ (b : Bool) (d n : ℕ) where
   pub fires-early : n < d → fires b d n ≡ false
   fires-early k = rw (lt-leb d n k, cond-same (ltb d never) false) (cond-same b false)
 
-  pub fires-due : b ≡ true → d ≤ n → n < never → fires b d n ≡ true
-  fires-due e k f = rw (e, lt-ltb d never (omega arith), le-leb d n k)
+  pub fires-due : b ≡ true → d < never → d ≤ n → fires b d n ≡ true
+  fires-due e f k = rw (e, lt-ltb d never f, le-leb d n k)
 
-pub fires-is : (b : Bool) (d n : ℕ) → fires b d n ≡ true → (b ≡ true) × (d < never) × (d ≤ n)
-fires-is b d n = go b (ltb d never) (leb d n) refl refl
-  where
-    go : (b p q : Bool) → ltb d never ≡ p → leb d n ≡ q → cond b (cond p q false) false ≡ true → (b ≡ true) × (d < never) × (d ≤ n)
-    go true true true e f g = (refl, ltb-true d never e, leb-true d n f)
-    go true true false e f g = clash (sym g)
-    go true false q e f g = clash (sym g)
-    go false p q e f g = clash (sym g)
+  pub fires-is : fires b d n ≡ true → (b ≡ true) × (d < never) × (d ≤ n)
+  fires-is e =
+      let x = both-true b _ e in
+      let y = both-true (ltb d never) (leb d n) (x .1) in
+      (x .0, ltb-true d never (y .0), leb-true d n (y .1))
 
-pub fires-not : (b : Bool) (d n : ℕ) → fires b d n ≡ false → (b ≡ false) ⊎ ((never ≤ d) ⊎ (n < d))
-fires-not b d n = go b (ltb d never) (leb d n) refl refl
-  where
-    go : (b p q : Bool) → ltb d never ≡ p → leb d n ≡ q → cond b (cond p q false) false ≡ false → (b ≡ false) ⊎ ((never ≤ d) ⊎ (n < d))
-    go true true true e f g = clash g
-    go true true false e f g = inr (inr (leb-false d n f))
-    go true false q e f g = inr (inl (ltb-false d never e))
-    go false p q e f g = inl refl
+  pub fires-not : fires b d n ≡ false → (b ≡ false) ⊎ ((never ≤ d) ⊎ (n < d))
+  fires-not e =
+      either b
+      (λ p. less d never (λ q. less n d (λ r. inr (inr r)) (λ r. clash (sym (fires-due p q r) ∙ e))) (λ q. inr (inl q)))
+      (λ p. inl p)
 
 -- numbers of a timeout
 module _ (d c : ℕ) where
@@ -79,20 +75,20 @@ module _ (d c : ℕ) where
   pub absolute-far : never ≤ d → absolute d c ≡ refuse einval
   absolute-far e = rw (le-ltb d never e) (cond-same (leb c d) (refuse einval))
 
-  pub absolute-is : c ≤ d → d < never → absolute d c ≡ accept d ok
+  pub absolute-is : c ≤ d → d < never → absolute d c ≡ accept d ok []
   absolute-is e g = rw (le-leb c d e, lt-ltb d never g)
 
 -- an announcement
 module _ (b : Bool) (d c n : ℕ) where
-  pub announces-none : never - c ≤ n → announces b d c n ≡ refuse einval
-  announces-none k = rw (le-ltb (c + n) never (omega arith))
+  pub announces-none : never ≤ c + n → announces b d c n ≡ refuse einval
+  announces-none k = too-late c n k _
 
-  module _ (k : n < never - c) where
-    pub announces-quiet : fires b d (c + n) ≡ false → announces b d c n ≡ accept (c + n) ok
-    announces-quiet e = rw (lt-ltb (c + n) never (omega arith), e)
+  module _ (k : c + n < never) where
+    pub announces-quiet : fires b d (c + n) ≡ false → announces b d c n ≡ accept (c + n) ok []
+    announces-quiet e = rw (lt-ltb (c + n) never k, e)
 
-    pub announces-fires : fires b d (c + n) ≡ true → announces b d c n ≡ accept (c + n) (pos 1)
-    announces-fires e = rw (lt-ltb (c + n) never (omega arith), e)
+    pub announces-fires : fires b d (c + n) ≡ true → announces b d c n ≡ accept (c + n) (pos 1) []
+    announces-fires e = rw (lt-ltb (c + n) never k, e)
 
   pub decides-wrong : right b d c ≡ false → announceDecide b d c n ≡ refuse einval
   decides-wrong e = rw e

@@ -1,62 +1,53 @@
 -- Our contracts imply Gale's: functions that only tell, and those on plain numbers. Assumes nothing.
-use mathlib.Core.Path.{_≡_, refl, sym, _∙_}
+use mathlib.Core.Path.{_≡_, sym, _∙_}
 use mathlib.Core.Bool.{Bool, true, false}
 use mathlib.Core.List.{List, []}
 use mathlib.Core.Logic.{_⊎_, inl, inr, ⊎-elim}
-use Prim.Native.Nat.{ℕ, _+_, _-_}
+use Prim.Native.Nat.{ℕ, _+_, _≤_, _<_}
 use native.Mathlib.Omega.{arith}
-use lib.Dec.{ltb}
 use lib.IntN.{ℤ}
-use borrow.Author.Tests.{ltb-true, ltb-false}
 use Rattle.thread.specs.Code.{ok, einval}
-use Rattle.store.specs.Store.{Reply, Decided, looks}
-use Rattle.store.proofs.Laws.{decided, declined, looks-bad}
-use Rattle.timeout.specs.Timeout.{Timeout, never, later, fires, right}
-use Rattle.timeout.specs.Post.{AddDecided, AbortDecided, AnnounceDecided, place, asked}
+use Rattle.store.specs.Store.{Reply, looks, Hands}
+use Rattle.store.proofs.Laws.{either, less, no-code, not-one, replies-bad, handed, decided, declined, looks-bad}
+use Rattle.timeout.specs.Timeout.{Timeout, never, fires, right}
+use Rattle.timeout.specs.Post.{AddDecided, AbortDecided, AnnounceDecided, place}
 use Rattle.timeout.specs.Upstream as upstream
 use Rattle.timeout.specs.Upstream.{Sum, AnnounceDecide}
-use Rattle.timeout.proofs.Numbers.{two-codes, not-one, in-time, too-late, fires-is, fires-not, announces-none, announces-quiet, announces-fires, decides-wrong, decides-right}
-use Rattle.timeout.proofs.Answers.{asked-bad}
+use Rattle.timeout.proofs.Numbers.{add-in-time, add-late, fires-is, fires-not}
+use Rattle.timeout.proofs.Numbers.{announces-none, announces-quiet, announces-fires, decides-wrong, decides-right}
 
--- a sum of ticks, decided with the answer 0
-pub sums : (c n m : ℕ) (r : ℤ) (m' : ℕ) → Decided (later ok c n) m r m' → Sum c n r m'
-sums c n m r m' d = go (ltb (c + n) never) refl
-  where
-    go : (b : Bool) → ltb (c + n) never ≡ b → Sum c n r m'
-    go true e =
-        let k = ltb-true (c + n) never e in
-        let y = decided (in-time ok c n (omega arith)) d in
-        record { is = λ z. y .1; below = λ z. k; clock = λ z. omega arith; code = λ f. absurd (f .0 (y .0)); over = λ f. absurd (f .0 (y .0)) }
-    go false e =
-        let k = ltb-false (c + n) never e in
-        let y = declined (too-late ok c n (omega arith)) d in
-        record { is = λ z. two-codes (sym z ∙ y .0); below = λ z. two-codes (sym z ∙ y .0); clock = λ z. two-codes (sym z ∙ y .0); code = λ f. y .0; over = λ f. k }
+-- a sum of ticks that is told, and one that is refused
+pub sums : (c n : ℕ) (r : ℤ) (m' : ℕ) → (c + n < never → (r ≡ ok) × (m' ≡ c + n)) → (never ≤ c + n → r ≡ einval) → Sum c n r m'
+sums c n r m' f g =
+    less (c + n) never
+    (λ k. let y = f k in record { is = λ z. y .1; below = λ z. k; clock = λ z. omega arith; code = λ f. absurd (f .0 (y .0)); over = λ f. absurd (f .0 (y .0)) })
+    (λ k. let y = g k in record { is = λ z. no-code (sym z ∙ y); below = λ z. no-code (sym z ∙ y); clock = λ z. no-code (sym z ∙ y); code = λ f. y; over = λ f. k })
 
 pub add-decide : (c n m : ℕ) (r : ℤ) (m' : ℕ) → AddDecided c n m r m' → Sum c n r m'
-add-decide c n m r m' d = sums c n m r m' d
+add-decide c n m r m' d = sums c n r m' (λ k. decided (add-in-time c n k) d) (λ k. declined (add-late c n k) d .0)
 
 pub abort-decide : (b r : Bool) → AbortDecided b r → upstream.AbortDecide b r
 abort-decide b r e = e
 
 module _ (c n d m : ℕ) (b : Bool) (r : ℤ) (m' : ℕ) (q : AnnounceDecided c n d b m r m') where
   pub announce-decide : right b d c ≡ true → AnnounceDecide c n d b r m'
-  announce-decide i = go (ltb (c + n) never) (fires b d (c + n)) refl refl
+  announce-decide i = less (c + n) never (λ k. either (fires b d (c + n)) (rings k) (quiet k)) late
     where
-      go : (x y : Bool) → ltb (c + n) never ≡ x → fires b d (c + n) ≡ y → AnnounceDecide c n d b r m'
-      go false y e f =
-          let k = ltb-false (c + n) never e in
-          let z = declined (decides-right b d c n i ∙ announces-none b d c n (omega arith)) q in
+      late : never ≤ c + n → AnnounceDecide c n d b r m'
+      late k =
+          let z = declined (decides-right b d c n i ∙ announces-none b d c n k) q in
           record {
-            below = λ g. ⊎-elim (λ g. two-codes (sym g ∙ z .0)) (λ g. two-codes (sym g ∙ z .0)) g;
-            moved = λ g. ⊎-elim (λ g. two-codes (sym g ∙ z .0)) (λ g. two-codes (sym g ∙ z .0)) g;
-            fired = λ g. two-codes (sym g ∙ z .0);
-            not-fired = λ g. two-codes (sym g ∙ z .0);
+            below = λ g. ⊎-elim (λ g. no-code (sym g ∙ z .0)) (λ g. no-code (sym g ∙ z .0)) g;
+            moved = λ g. ⊎-elim (λ g. no-code (sym g ∙ z .0)) (λ g. no-code (sym g ∙ z .0)) g;
+            fired = λ g. no-code (sym g ∙ z .0);
+            not-fired = λ g. no-code (sym g ∙ z .0);
             code = λ g. z .0;
             over = λ g. k;
           }
-      go true false e f =
-          let k = ltb-true (c + n) never e in
-          let z = decided (decides-right b d c n i ∙ announces-quiet b d c n (omega arith) f) q in
+
+      quiet : c + n < never → fires b d (c + n) ≡ false → AnnounceDecide c n d b r m'
+      quiet k f =
+          let z = decided (decides-right b d c n i ∙ announces-quiet b d c n k f) q in
           record {
             below = λ g. k;
             moved = λ g. z .1;
@@ -65,9 +56,10 @@ module _ (c n d m : ℕ) (b : Bool) (r : ℤ) (m' : ℕ) (q : AnnounceDecided c 
             code = λ g. absurd (g .0 (z .0));
             over = λ g. absurd (g .0 (z .0));
           }
-      go true true e f =
-          let k = ltb-true (c + n) never e in
-          let z = decided (decides-right b d c n i ∙ announces-fires b d c n (omega arith) f) q in
+
+      rings : c + n < never → fires b d (c + n) ≡ true → AnnounceDecide c n d b r m'
+      rings k f =
+          let z = decided (decides-right b d c n i ∙ announces-fires b d c n k f) q in
           let w = fires-is b d (c + n) f in
           record {
             below = λ g. k;
@@ -86,5 +78,6 @@ module _ (c n d m : ℕ) (b : Bool) (r : ℤ) (m' : ℕ) (q : AnnounceDecided c 
 pub get-refuses : (f : Timeout → ℤ) (h : List ℕ) (r : ℤ) → place .formed h [] ≡ false → r ≡ looks place f h [] → r ≡ einval
 get-refuses f h r e d = d ∙ looks-bad place h [] f e
 
-pub ask-refuses : (f : Timeout → Reply ℕ) (h : List ℕ) (m : ℕ) (r : ℤ) (m' : ℕ) → place .formed h [] ≡ false → Decided (asked f h) m r m' → (r ≡ einval) × (m' ≡ m)
-ask-refuses f h m r m' e d = declined (asked-bad h e f) d
+pub ask-refuses : (f : Timeout → Reply Timeout) (h : List ℕ) (m : ℕ) (r : ℤ) (m' : ℕ) → place .formed h [] ≡ false → Hands place f h [] m r h m'
+    → (r ≡ einval) × (m' ≡ m)
+ask-refuses f h m r m' e d = handed place f h [] m (replies-bad place f h [] e) d

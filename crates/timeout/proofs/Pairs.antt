@@ -1,72 +1,67 @@
 -- Two calls, one after the other. Assumes nothing.
 use mathlib.Core.Path.{_≡_, refl, ap, _∙_}
-use mathlib.Core.Bool.{Bool, true, false}
+use mathlib.Core.Bool.{true}
 use mathlib.Core.List.{[]}
-use Prim.Native.Nat.{ℕ, _+_, _-_, _<_}
+use Prim.Native.Nat.{ℕ, _+_, _-_}
 use native.Mathlib.Omega.{arith}
-use lib.Dec.{ltb}
 use lib.ListN.{getD}
-use borrow.Author.Tests.{ltb-true, ltb-false, lt-ltb}
-use Rattle.thread.specs.Code.{ok, einval}
-use Rattle.store.specs.Store.{refuse, accept, answer}
-use Rattle.store.proofs.Laws.{no-code, decided, declined}
-use Rattle.timeout.specs.Timeout.{timeout, never, add, addNoWait, abort, announce, until, remaining, timepointCalc, timepointTimeout, whetherActive}
-use Rattle.timeout.specs.Post.{place, asked}
+use borrow.Author.Tests.{lt-ltb}
+use Rattle.store.specs.Store.{answer, carry}
+use Rattle.store.proofs.Laws.{less, no-code, replies, handed, found}
+use Rattle.timeout.specs.Timeout.{timeout, never, add, addNoWait, abort, announce, remaining, timepointCalc, timepointTimeout, whetherActive}
+use Rattle.timeout.specs.Post.{place}
 use Rattle.timeout.specs.Pairs.{AddRemaining, CalcTimeout, AbortActive, AbortAdd, RemainingFires, NoWaitFires}
-use Rattle.timeout.proofs.Numbers.{in-time, too-late, until-is}
+use Rattle.timeout.proofs.Numbers.{add-in-time, add-late, until-is}
 use Rattle.timeout.proofs.Memory.{sound}
-use Rattle.timeout.proofs.Answers.{asked-is, remaining-some}
-use Rattle.timeout.proofs.Steps.{went, found, add-ok, abort-ok, no-wait-ok, fires-then, quiet-then, told, shown}
+use Rattle.timeout.proofs.Answers.{remaining-some}
+use Rattle.timeout.proofs.Steps.{went, add-ok, abort-ok, no-wait-ok, fires-then, quiet-then, told}
 
 pub add-remaining : AddRemaining
 add-remaining h h' n m m' r d q =
     let w = went (add n) h h' d in
     let c = getD h 2 0 in
-    let s = add-ok (getD h 0 0) (getD h 1 0) c n (w .code) in
-    let u : until (c + n) c ≡ n = until-is (c + n) c (λ e. omega (arith, s .0)) ∙ omega arith in
-    decided (shown remaining h' (timeout (c + n) 1 c) (w .still) (w .object ∙ s .1) ∙ ap (λ x. accept x ok) u) q
+    let s = add-ok (place .object h []) n (w .code) in
+    let p = handed place remaining h' [] m (replies place remaining h' [] (w .still) ∙ ap remaining (w .object ∙ s .1)) q in
+    (p .0, p .1 ∙ until-is (c + n) c (λ e. omega (arith, s .0)) ∙ omega arith)
 
 pub calc-timeout : CalcTimeout
-calc-timeout h n m tp k k' r p q = go (getD h 2 0) refl (ltb (getD h 2 0 + n) never) refl
+calc-timeout h n m tp k k' r p q =
+    less (c + n) never
+    (λ b.
+    let t : tp ≡ c + n = handed place (timepointCalc n) h [] m (replies place (timepointCalc n) h [] e ∙ ap (carry (λ n. place .object h [])) (add-in-time c n b)) p .1 in
+    let y = handed place (timepointTimeout tp) h [] k (replies place (timepointTimeout tp) h [] e) q in
+    (y .0, y .1 ∙ until-is tp c (λ e. omega arith) ∙ omega arith))
+    (λ b. no-code (handed place (timepointCalc n) h [] m (replies place (timepointCalc n) h [] e ∙ ap (carry (λ n. place .object h [])) (add-late c n b)) p .0))
   where
-    e : place .formed h [] ≡ true
-    e = found (timepointCalc n) h m tp p
+    c : ℕ
+    c = getD h 2 0
 
-    go : (c : ℕ) → getD h 2 0 ≡ c → (b : Bool) → ltb (c + n) never ≡ b → (r ≡ ok) × (k' ≡ n)
-    go c o true f =
-        let b : c + n < never = ltb-true (c + n) never f in
-        let z : asked (timepointCalc n) h ≡ accept (c + n) ok = asked-is h e (timepointCalc n) ∙ rw o (in-time ok c n (omega arith)) in
-        let t : tp ≡ c + n = decided z p .1 in
-        let u : until tp c ≡ n = until-is tp c (λ e. omega arith) ∙ omega arith in
-        let y : asked (timepointTimeout tp) h ≡ accept n ok = asked-is h e (timepointTimeout tp) ∙ rw (o, u) in
-        decided y q
-    go c o false f =
-        let z : asked (timepointCalc n) h ≡ refuse einval = asked-is h e (timepointCalc n) ∙ rw o (too-late ok c n (omega (arith, ltb-false (c + n) never f))) in
-        absurd (no-code (declined z p .0))
+    e : place .formed h [] ≡ true
+    e = found place (timepointCalc n) h [] (p .0)
 
 pub abort-active : AbortActive
 abort-active h h' d =
     let w = went abort h h' d in
-    let o = w .object ∙ abort-ok (getD h 0 0) (getD h 1 0) (getD h 2 0) (w .code) in
-    rw (w .still) (ap whetherActive o)
+    rw (w .still) (ap whetherActive (w .object ∙ abort-ok (place .object h []) (w .code)))
 
 pub abort-add : AbortAdd
 abort-add h h' h'' n r d b q =
     let w = went abort h h' d in
-    let o = w .object ∙ abort-ok (getD h 0 0) (getD h 1 0) (getD h 2 0) (w .code) in
+    let o = w .object ∙ abort-ok (place .object h []) (w .code) in
     told (add n) h' h'' r (timeout (getD h 0 0) 0 (getD h 2 0)) q (w .still) o ∙ rw (lt-ltb (getD h 2 0 + n) never b)
 
 pub remaining-fires : RemainingFires
 remaining-fires h h' m m' n r k f p q =
-    let d = getD h 0 0 in
-    let c = getD h 2 0 in
-    let e = found remaining h m m' p in
-    let u : m' ≡ d - c = decided (asked-is h e remaining ∙ remaining-some h k) p .1 ∙ until-is d c (λ e. omega arith) in
-    let z : r ≡ answer (announce n (timeout d (getD h 1 0) c)) = told (announce n) h h' r (timeout d (getD h 1 0) c) q e refl in
-    (λ b. z ∙ quiet-then d (getD h 1 0) c n k (omega arith) (omega arith), λ b. z ∙ fires-then d (getD h 1 0) c n k (omega (arith, sound h e)) (omega arith))
+    let t = place .object h [] in
+    let e = found place remaining h [] (p .0) in
+    let u : m' ≡ getD h 0 0 - getD h 2 0 =
+    handed place remaining h [] m (replies place remaining h [] e ∙ remaining-some t k) p .1 ∙ until-is (getD h 0 0) (getD h 2 0) (λ e. omega arith) in
+    let z : r ≡ answer (announce n t) = told (announce n) h h' r t q e refl in
+    (λ b. z ∙ quiet-then t n k (omega arith) (omega arith), λ b. z ∙ fires-then t n k (omega (arith, sound h e)) (omega arith))
 
 pub no-wait-fires : NoWaitFires
 no-wait-fires h h' h'' n r d b q =
     let w = went addNoWait h h' d in
-    let o = w .object ∙ no-wait-ok (getD h 0 0) (getD h 1 0) (getD h 2 0) (w .code) in
-    told (announce n) h' h'' r (timeout 0 1 (getD h 2 0)) q (w .still) o ∙ fires-then 0 1 (getD h 2 0) n (omega arith) b (omega arith)
+    let o = w .object ∙ no-wait-ok (place .object h []) (w .code) in
+    let t = timeout 0 1 (getD h 2 0) in
+    told (announce n) h' h'' r t q (w .still) o ∙ fires-then t n (omega arith) b (omega arith)

@@ -1,94 +1,91 @@
 -- What upstream's contracts say of setting a deadline, of the definitions. Assumes nothing.
 use mathlib.Core.Path.{_≡_, refl, sym, subst}
-use mathlib.Core.Bool.{Bool, true, false}
+use mathlib.Core.List.{[]}
 use mathlib.Core.Logic.{_⊎_, inl, inr}
 use Prim.Native.Nat.{ℕ, _+_, _≤_, _<_}
 use native.Mathlib.Omega.{arith}
-use lib.Dec.{ltb, leb}
-use borrow.Author.Tests.{ltb-true, ltb-false, leb-true, leb-false}
 use Rattle.thread.specs.Code.{ok, einval}
-use Rattle.store.specs.Store.{Reply, refuse, accept, answer, left, settled}
-use Rattle.timeout.specs.Timeout.{Timeout, timeout, never, arm, add, addAbsolute}
+use Rattle.store.specs.Store.{Reply, refuse, accept, answer, left, out, first}
+use Rattle.store.proofs.Laws.{less, no-code}
+use Rattle.timeout.specs.Timeout.{Timeout, never, arm, add, addAbsolute}
 use Rattle.timeout.specs.Upstream.{Add, AddAbsolute, AddFixed}
-use Rattle.timeout.proofs.Numbers.{two-codes, in-time, too-late, absolute-behind, absolute-far, absolute-is}
+use Rattle.timeout.proofs.Numbers.{add-in-time, add-late, absolute-behind, absolute-far, absolute-is}
 use Rattle.timeout.proofs.Whole.{set-no, set-is}
 
-module _ (d a c : ℕ) where
-  pub fixed : (x : ℕ) → c < never → a ≡ 0 → (x ≡ 0) ⊎ (c ≤ x) → AddFixed x (timeout d a c) (left (arm (accept x ok) (timeout d a c)) (timeout d a c))
-  fixed x k e f =
-      subst (λ (y : Reply Timeout). AddFixed x (timeout d a c) (left y (timeout d a c))) (sym (set-is d a c (accept x ok) e refl))
+module _ (t : Timeout) (k : t .clock < never) (z : t .active ≡ 0) where
+  pub fixed : (x : ℕ) → (x ≡ 0) ⊎ (t .clock ≤ x) → AddFixed x t (left (arm (accept x ok []) t) t)
+  fixed x f =
+      subst (λ (y : Reply Timeout). AddFixed x t (left y t)) (sym (set-is t (accept x ok []) z refl))
       (record { inv = record { tick = k; ahead = λ j. f }; active = omega arith; deadline = refl; clock = refl })
 
-  pub adds : (n m : ℕ) → c < never → a ≡ 0
-      → Add n (timeout d a c) (answer (add n (timeout d a c))) (settled (λ (t : Timeout). t .deadline) (add n (timeout d a c)) m) (left (add n (timeout d a c)) (timeout d a c))
-  adds n m k z = go (ltb (c + n) never) refl
+  pub adds : (n m : ℕ) → Add n t (answer (add n t)) (first m (out (add n t))) (left (add n t) t)
+  adds n m =
+      less (t .clock + n) never
+      (λ e.
+      subst upstream (sym (set-is t _ z (add-in-time (t .clock) n e)))
+      (record {
+        clock = refl;
+        inv = λ r. record { tick = k; ahead = λ j. inr (omega arith) };
+        active = λ r. omega arith;
+        sum = λ r. refl;
+        told = λ r. refl;
+        ahead = λ r. omega arith;
+        code = λ f. absurd (f .0 refl);
+        over = λ f. absurd (f .0 refl);
+        active-stays = λ f. absurd (f .0 refl);
+        deadline-stays = λ f. absurd (f .0 refl);
+      }))
+      (λ e.
+      subst upstream (sym (set-no t _ z (add-late (t .clock) n e)))
+      (record {
+        clock = refl;
+        inv = λ r. no-code (sym r);
+        active = λ r. no-code (sym r);
+        sum = λ r. no-code (sym r);
+        told = λ r. no-code (sym r);
+        ahead = λ r. no-code (sym r);
+        code = λ f. refl;
+        over = λ f. e;
+        active-stays = λ f. refl;
+        deadline-stays = λ f. refl;
+      }))
     where
-      upstream : (y : Reply Timeout) → Type 0
-      upstream y = Add n (timeout d a c) (answer y) (settled (λ (t : Timeout). t .deadline) y m) (left y (timeout d a c))
+      upstream : Reply Timeout → Type 0
+      upstream y = Add n t (answer y) (first m (out y)) (left y t)
 
-      go : (b : Bool) → ltb (c + n) never ≡ b → upstream (add n (timeout d a c))
-      go true e =
-          subst upstream (sym (set-is d a c _ z (in-time ok c n (omega (arith, ltb-true (c + n) never e)))))
-          (record {
-            clock = refl;
-            inv = λ r. record { tick = k; ahead = λ j. inr (omega arith) };
-            active = λ r. omega arith;
-            sum = λ r. refl;
-            told = λ r. refl;
-            ahead = λ r. omega arith;
-            code = λ f. absurd (f .0 refl);
-            over = λ f. absurd (f .0 refl);
-            active-stays = λ f. absurd (f .0 refl);
-            deadline-stays = λ f. absurd (f .0 refl);
-          })
-      go false e =
-          subst upstream (sym (set-no d a c _ z (too-late ok c n (omega (arith, ltb-false (c + n) never e)))))
-          (record {
-            clock = refl;
-            inv = λ r. two-codes (sym r);
-            active = λ r. two-codes (sym r);
-            sum = λ r. two-codes (sym r);
-            told = λ r. two-codes (sym r);
-            ahead = λ r. two-codes (sym r);
-            code = λ f. refl;
-            over = λ f. ltb-false (c + n) never e;
-            active-stays = λ f. refl;
-            deadline-stays = λ f. refl;
-          })
-
-  pub adds-absolute : (x : ℕ) → c < never → a ≡ 0 → AddAbsolute x (timeout d a c) (answer (addAbsolute x (timeout d a c))) (left (addAbsolute x (timeout d a c)) (timeout d a c))
-  adds-absolute x k z = go (leb c x) (ltb x never) refl refl
+  pub adds-absolute : (x : ℕ) → AddAbsolute x t (answer (addAbsolute x t)) (left (addAbsolute x t) t)
+  adds-absolute x =
+      less x (t .clock) (λ e. subst upstream (sym (set-no t _ z (absolute-behind x (t .clock) e))) (no (inl e)))
+      (λ e. less x never (yes e) (λ f. subst upstream (sym (set-no t _ z (absolute-far x (t .clock) f))) (no (inr f))))
     where
-      upstream : (y : Reply Timeout) → Type 0
-      upstream y = AddAbsolute x (timeout d a c) (answer y) (left y (timeout d a c))
+      upstream : Reply Timeout → Type 0
+      upstream y = AddAbsolute x t (answer y) (left y t)
 
-      no : (x < c) ⊎ (never ≤ x) → upstream (refuse einval)
+      no : (x < t .clock) ⊎ (never ≤ x) → upstream (refuse einval)
       no w =
           record {
             clock = refl;
-            inv = λ r. two-codes (sym r);
-            active = λ r. two-codes (sym r);
-            is = λ r. two-codes (sym r);
-            ahead = λ r. two-codes (sym r);
-            finite = λ r. two-codes (sym r);
+            inv = λ r. no-code (sym r);
+            active = λ r. no-code (sym r);
+            is = λ r. no-code (sym r);
+            ahead = λ r. no-code (sym r);
+            finite = λ r. no-code (sym r);
             code = λ f. refl;
             wrong = λ f. w;
             active-stays = λ f. refl;
             deadline-stays = λ f. refl;
           }
 
-      go : (p q : Bool) → leb c x ≡ p → ltb x never ≡ q → upstream (addAbsolute x (timeout d a c))
-      go false q e f = subst upstream (sym (set-no d a c _ z (absolute-behind x c (leb-false c x e)))) (no (inl (leb-false c x e)))
-      go true false e f = subst upstream (sym (set-no d a c _ z (absolute-far x c (ltb-false x never f)))) (no (inr (ltb-false x never f)))
-      go true true e f =
-          subst upstream (sym (set-is d a c _ z (absolute-is x c (leb-true c x e) (ltb-true x never f))))
+      yes : t .clock ≤ x → x < never → upstream (addAbsolute x t)
+      yes e f =
+          subst upstream (sym (set-is t _ z (absolute-is x (t .clock) e f)))
           (record {
             clock = refl;
-            inv = λ r. record { tick = k; ahead = λ j. inr (leb-true c x e) };
+            inv = λ r. record { tick = k; ahead = λ j. inr e };
             active = λ r. omega arith;
             is = λ r. refl;
-            ahead = λ r. leb-true c x e;
-            finite = λ r. ltb-true x never f;
+            ahead = λ r. e;
+            finite = λ r. f;
             code = λ g. absurd (g .0 refl);
             wrong = λ g. absurd (g .0 refl);
             active-stays = λ g. absurd (g .0 refl);

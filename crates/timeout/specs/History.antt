@@ -10,7 +10,7 @@ use lib.ListN.{getD}
 use Rattle.seq.specs.List.{All}
 use Rattle.thread.specs.Code.{ok, ebusy, einval}
 use Rattle.store.specs.Store.{Reply, refuse, answer}
-use Rattle.store.specs.History.{refusal, Event, Run}
+use Rattle.store.specs.History.{Step, refusal, after, Made}
 use Rattle.timeout.specs.Timeout.{Timeout, never, atOnce, fires, arm, add, addAbsolute, addForever, addNoWait, abort, announce}
 use Rattle.timeout.specs.Post.{Starts, place}
 
@@ -40,10 +40,9 @@ ticksOf addingNoWait = 0
 ticksOf aborting = 0
 ticksOf (announcing n) = n
 
--- those that were announced and not refused; the last event is in front
-abbrev pub ticked : List (Event Call) → ℕ
-ticked [] = 0
-ticked (e ∷ es) = cond (refusal (e .answer)) (ticked es) (ticked es + ticksOf (e .call))
+-- those that were announced and not refused
+abbrev pub ticked : List (Step Call) → ℕ
+ticked es = after (λ (n : ℕ) (e : Step Call). cond (refusal (e .answer)) n (n + ticksOf (e .call))) 0 es
 
 -- nothing is to fire; or something at a deadline
 pub data Plan : Type 0 where
@@ -59,8 +58,8 @@ planned addingNoWait a c p = due atOnce
 planned aborting a c p = idle
 planned (announcing n) a c p = cond (eqb a 1) idle p
 
--- after events, before which the clock was at c and nothing was to fire
-abbrev pub plan : (c : ℕ) → List (Event Call) → Plan
+-- after steps, before which the clock was at c and nothing was to fire
+abbrev pub plan : (c : ℕ) → List (Step Call) → Plan
 plan c [] = idle
 plan c (e ∷ es) = cond (refusal (e .answer)) (plan c es) (planned (e .call) (mag (e .answer)) (c + ticked es) (plan c es))
 
@@ -74,8 +73,8 @@ abbrev pub firesAt : Plan → (n : ℕ) → Bool
 firesAt idle n = false
 firesAt (due d) n = fires true d n
 
--- a timeout that was new with the clock at c, after the events es
-pub record Promise (c : ℕ) (es : List (Event Call)) (t : Timeout) : Type 0 where
+-- a timeout that was new with the clock at c, after the steps es
+pub record Promise (c : ℕ) (es : List (Step Call)) (t : Timeout) : Type 0 where
   pub clock : t .clock ≡ c + ticked es
   pub below : t .clock < never
   pub shows : Shows (plan c es) t
@@ -89,7 +88,7 @@ pub record Promise (c : ℕ) (es : List (Event Call)) (t : Timeout) : Type 0 whe
 -- from any memory in which init made a timeout, h₀
 abbrev pub Always : Type 0
 Always =
-    (c : ℕ) (h h₀ h' : List ℕ) (es : List (Event Call)) → Starts c h ok h₀ → Run place does h₀ [] es h' []
+    (c : ℕ) (h h₀ h' : List ℕ) (es : List (Step Call)) → Starts c h ok h₀ → Made place does h₀ [] es h' []
     → (place .formed h' [] ≡ true) × Promise c es (place .object h' [])
 
 -- the call is an announcement
@@ -102,47 +101,47 @@ announced aborting = false
 announced (announcing n) = true
 
 -- an announcement that was not refused
-abbrev pub moves : Event Call → Bool
+abbrev pub moves : Step Call → Bool
 moves e = cond (refusal (e .answer)) false (announced (e .call))
 
 -- one that fired
-abbrev pub fired : Event Call → Bool
+abbrev pub fired : Step Call → Bool
 fired e = cond (moves e) (eqb (mag (e .answer)) 1) false
 
 -- an add or an abort that was not refused
-abbrev pub touches : Event Call → Bool
+abbrev pub touches : Step Call → Bool
 touches e = cond (refusal (e .answer)) false (cond (announced (e .call)) false true)
 
--- how many of the events fired
-abbrev pub firings : List (Event Call) → ℕ
-firings [] = 0
-firings (e ∷ es) = cond (fired e) (suc (firings es)) (firings es)
+-- how many of the steps fired
+abbrev pub firings : List (Step Call) → ℕ
+firings es = after (λ (n : ℕ) (e : Step Call). cond (fired e) (suc n) n) 0 es
 
 -- the clock, which was at c, was moved, and what has this deadline is due
-abbrev pub reached : (deadline c : ℕ) → List (Event Call) → Bool
+abbrev pub reached : (deadline c : ℕ) → List (Step Call) → Bool
 reached deadline c [] = false
 reached deadline c (e ∷ es) = cond (moves e) (fires true deadline (c + ticked (e ∷ es))) (reached deadline c es)
 
 -- while no add and no abort succeeds, a timeout that is active fires when it is reached, at that announcement, and not again
 abbrev pub Once : Type 0
 Once =
-    (h h' : List ℕ) (es : List (Event Call)) → place .formed h [] ≡ true → 0 < getD h 1 0 → Run place does h [] es h' [] → All (λ e. touches e ≡ false) es
-    → firings es ≡ cond (reached (getD h 0 0) (getD h 2 0) es) 1 0
+    (h h' : List ℕ) (es : List (Step Call)) → place .formed h [] ≡ true → 0 < getD h 1 0 → Made place does h [] es h' []
+    → All (λ e. touches e ≡ false) es → firings es ≡ cond (reached (getD h 0 0) (getD h 2 0) es) 1 0
 
 -- never is reached by no announcements; at once is by each one, also of 0 ticks
 abbrev pub NeverReached : Type 0
-NeverReached = (c : ℕ) (es : List (Event Call)) → reached never c es ≡ false
+NeverReached = (c : ℕ) (es : List (Step Call)) → reached never c es ≡ false
 
 abbrev pub AtOnceReached : Type 0
-AtOnceReached = (c : ℕ) (e : Event Call) (es : List (Event Call)) → moves e ≡ true → reached atOnce c (e ∷ es) ≡ true
+AtOnceReached = (c : ℕ) (e : Step Call) (es : List (Step Call)) → moves e ≡ true → reached atOnce c (e ∷ es) ≡ true
 
 -- so what is never to fire does not fire
 abbrev pub Forever : Type 0
 Forever =
-    (h h' : List ℕ) (es : List (Event Call)) → place .formed h [] ≡ true → 0 < getD h 1 0 → getD h 0 0 ≡ never → Run place does h [] es h' []
+    (h h' : List ℕ) (es : List (Step Call)) → place .formed h [] ≡ true → 0 < getD h 1 0 → getD h 0 0 ≡ never → Made place does h [] es h' []
     → All (λ e. touches e ≡ false) es → firings es ≡ 0
 
 -- and one that is not active does not fire until it is added
 abbrev pub Quiet : Type 0
 Quiet =
-    (h h' : List ℕ) (es : List (Event Call)) → place .formed h [] ≡ true → getD h 1 0 ≡ 0 → Run place does h [] es h' [] → All (λ e. touches e ≡ false) es → firings es ≡ 0
+    (h h' : List ℕ) (es : List (Step Call)) → place .formed h [] ≡ true → getD h 1 0 ≡ 0 → Made place does h [] es h' []
+    → All (λ e. touches e ≡ false) es → firings es ≡ 0

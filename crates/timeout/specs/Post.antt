@@ -6,8 +6,7 @@ use Prim.Native.Nat.{ℕ}
 use lib.Dec.{ltb, leb}
 use lib.IntN.{ℤ}
 use lib.ListN.{length, getD}
-use Rattle.thread.specs.Code.{einval}
-use Rattle.store.specs.Store.{Reply, refuse, settled, Decided, Place, reply, Did, looks, Started}
+use Rattle.store.specs.Store.{Decided, Place, Did, looks, Hands, Started}
 use Rattle.timeout.specs.Timeout.{Timeout, timeout, right, addDecide, announceDecide, abortDecide, add, addAbsolute, addForever, addNoWait, abort, announce, remaining, expires, clockNow, timepointCalc, timepointTimeout, whetherActive, whetherForever, whetherNoWait, fresh, may}
 
 abbrev pub place : Place Timeout
@@ -19,10 +18,6 @@ place =
       formed = λ h b. cond (leb 3 (length h)) (right (ltb 0 (getD h 1 0)) (getD h 0 0) (getD h 2 0)) false;
     }
 
--- a number that is asked of a timeout in memory
-abbrev pub asked : (Timeout → Reply ℕ) → List ℕ → Reply ℕ
-asked f h = cond (place .formed h []) (f (place .object h [])) (refuse einval)
-
 -- ---- what each function does
 
 -- a new timeout with this clock; it is not active
@@ -31,8 +26,7 @@ Starts clock h r h' = Started place (may clock) (fresh clock) h [] r h' []
 
 -- it is active, with a deadline so many ticks from now, which is told to the word n
 abbrev pub Adds : ℕ → List ℕ → ℕ → ℤ → List ℕ → ℕ → Type 0
-Adds duration h n r h' n' =
-    Did place (add duration) h [] r h' [] × (n' ≡ settled (λ (t : Timeout). t .deadline) (reply place (add duration) h []) n)
+Adds duration h n r h' n' = Hands place (add duration) h [] n r h' n'
 
 -- with this deadline
 abbrev pub AddsAbsolute : ℕ → List ℕ → ℤ → List ℕ → Type 0
@@ -56,20 +50,20 @@ Announces ticks h r h' = Did place (announce ticks) h [] r h' []
 
 -- a number of a timeout, told to the word n
 abbrev pub GetsRemaining : List ℕ → ℕ → ℤ → ℕ → Type 0
-GetsRemaining h n r n' = Decided (asked remaining h) n r n'
+GetsRemaining h n r n' = Hands place remaining h [] n r h n'
 
 abbrev pub GetsExpiry : List ℕ → ℕ → ℤ → ℕ → Type 0
-GetsExpiry h n r n' = Decided (asked expires h) n r n'
+GetsExpiry h n r n' = Hands place expires h [] n r h n'
 
 abbrev pub GetsNow : List ℕ → ℕ → ℤ → ℕ → Type 0
-GetsNow h n r n' = Decided (asked clockNow h) n r n'
+GetsNow h n r n' = Hands place clockNow h [] n r h n'
 
 -- the deadline of a duration, and the ticks that are left until it
 abbrev pub CalcsTimepoint : ℕ → List ℕ → ℕ → ℤ → ℕ → Type 0
-CalcsTimepoint duration h n r n' = Decided (asked (timepointCalc duration) h) n r n'
+CalcsTimepoint duration h n r n' = Hands place (timepointCalc duration) h [] n r h n'
 
 abbrev pub GetsTimepointTimeout : ℕ → List ℕ → ℕ → ℤ → ℕ → Type 0
-GetsTimepointTimeout timepoint h n r n' = Decided (asked (timepointTimeout timepoint) h) n r n'
+GetsTimepointTimeout timepoint h n r n' = Hands place (timepointTimeout timepoint) h [] n r h n'
 
 abbrev pub SaysActive : List ℕ → ℤ → Type 0
 SaysActive h r = r ≡ looks place whetherActive h []

@@ -1,10 +1,11 @@
 -- The timeout: a deadline in ticks, and a clock.
 use mathlib.Core.Bool.{Bool, true, false, cond}
+use mathlib.Core.List.{[], _∷_}
 use Prim.Native.Nat.{ℕ, _+_, _-_}
 use lib.Dec.{eqb, ltb, leb}
 use lib.IntN.{ℤ, pos}
 use Rattle.thread.specs.Code.{ok, ebusy, einval}
-use Rattle.store.specs.Store.{Reply, refuse, accept, carry}
+use Rattle.store.specs.Store.{Reply, refuse, accept, carry, handing}
 
 pub record Timeout : Type 0 where
   pub deadline : ℕ
@@ -28,7 +29,7 @@ isActive t = ltb 0 (t .active)
 
 -- so many ticks after the clock, and that this answers a; refused, if that would reach never
 abbrev pub later : (a : ℤ) → (clock ticks : ℕ) → Reply ℕ
-later a clock ticks = cond (ltb (clock + ticks) never) (accept (clock + ticks) a) (refuse einval)
+later a clock ticks = cond (ltb (clock + ticks) never) (accept (clock + ticks) a []) (refuse einval)
 
 -- whether what is active with this deadline fires when the clock is at n
 abbrev pub fires : (active : Bool) → (deadline n : ℕ) → Bool
@@ -38,9 +39,9 @@ fires active deadline n = cond active (cond (ltb deadline never) (leb deadline n
 abbrev pub right : (active : Bool) → (deadline clock : ℕ) → Bool
 right active deadline clock = cond (ltb clock never) (cond active (cond (eqb deadline atOnce) true (leb clock deadline)) true) false
 
--- what an add makes of the deadline
+-- what an add makes of the deadline, which is handed out
 abbrev pub addDecide : (clock duration : ℕ) → Reply ℕ
-addDecide clock duration = later ok clock duration
+addDecide clock duration = handing ((clock + duration) ∷ []) (later ok clock duration)
 
 -- what an announcement makes of the clock, 1: it fires
 abbrev pub announces : (active : Bool) → (deadline clock ticks : ℕ) → Reply ℕ
@@ -62,19 +63,19 @@ add duration t = arm (addDecide (t .clock) duration) t
 
 -- a deadline that is neither behind the clock nor never
 abbrev pub absolute : (deadline clock : ℕ) → Reply ℕ
-absolute deadline clock = cond (leb clock deadline) (cond (ltb deadline never) (accept deadline ok) (refuse einval)) (refuse einval)
+absolute deadline clock = cond (leb clock deadline) (cond (ltb deadline never) (accept deadline ok []) (refuse einval)) (refuse einval)
 
 abbrev pub addAbsolute : (deadline : ℕ) → Timeout → Reply Timeout
 addAbsolute deadline t = arm (absolute deadline (t .clock)) t
 
 abbrev pub addForever : Timeout → Reply Timeout
-addForever t = arm (accept never ok) t
+addForever t = arm (accept never ok []) t
 
 abbrev pub addNoWait : Timeout → Reply Timeout
-addNoWait t = arm (accept atOnce ok) t
+addNoWait t = arm (accept atOnce ok []) t
 
 abbrev pub abort : Timeout → Reply Timeout
-abort t = cond (abortDecide (isActive t)) (accept (timeout (t .deadline) 0 (t .clock)) ok) (refuse einval)
+abort t = cond (abortDecide (isActive t)) (accept (timeout (t .deadline) 0 (t .clock)) ok []) (refuse einval)
 
 -- the clock moves on; what fires is not active then
 abbrev pub announce : (ticks : ℕ) → Timeout → Reply Timeout
@@ -86,21 +87,21 @@ announce ticks t =
 abbrev pub until : (tick clock : ℕ) → ℕ
 until tick clock = cond (eqb tick never) never (tick - clock)
 
--- numbers that are told
-abbrev pub remaining : Timeout → Reply ℕ
-remaining t = accept (cond (isActive t) (until (t .deadline) (t .clock)) 0) ok
+-- numbers that are handed out, and nothing changes
+abbrev pub remaining : Timeout → Reply Timeout
+remaining t = accept t ok (cond (isActive t) (until (t .deadline) (t .clock)) 0 ∷ [])
 
-abbrev pub expires : Timeout → Reply ℕ
-expires t = accept (cond (isActive t) (t .deadline) (t .clock)) ok
+abbrev pub expires : Timeout → Reply Timeout
+expires t = accept t ok (cond (isActive t) (t .deadline) (t .clock) ∷ [])
 
-abbrev pub clockNow : Timeout → Reply ℕ
-clockNow t = accept (t .clock) ok
+abbrev pub clockNow : Timeout → Reply Timeout
+clockNow t = accept t ok (t .clock ∷ [])
 
-abbrev pub timepointCalc : (duration : ℕ) → Timeout → Reply ℕ
-timepointCalc duration t = later ok (t .clock) duration
+abbrev pub timepointCalc : (duration : ℕ) → Timeout → Reply Timeout
+timepointCalc duration t = carry (λ n. t) (addDecide (t .clock) duration)
 
-abbrev pub timepointTimeout : (timepoint : ℕ) → Timeout → Reply ℕ
-timepointTimeout timepoint t = accept (until timepoint (t .clock)) ok
+abbrev pub timepointTimeout : (timepoint : ℕ) → Timeout → Reply Timeout
+timepointTimeout timepoint t = accept t ok (until timepoint (t .clock) ∷ [])
 
 -- no is 0, yes is 1
 abbrev pub yesNo : Bool → ℤ

@@ -3,6 +3,7 @@
 -- word that is not 0. Upstream's text stands above each field.
 use mathlib.Core.Path.{_≡_}
 use mathlib.Core.Bool.{Bool, true, false}
+use mathlib.Core.List.{[], _∷_}
 use mathlib.Core.Logic.{_⊎_}
 use Prim.Native.Nat.{ℕ, _+_, _-_, _≤_, _<_}
 use lib.IntN.{ℤ, pos}
@@ -223,41 +224,43 @@ pub record Inductive : Type 0 where
 -- lemma_add_deadline_correct, where the sum is below K_FOREVER_TICKS
 pub record AddCorrect (c n : ℕ) : Type 0 where
   -- deadline == current_tick + duration
-  pub sum : addDecide c n ≡ accept (c + n) ok
+  pub sum : addDecide c n ≡ accept (c + n) ok ((c + n) ∷ [])
   -- deadline >= current_tick
   pub ahead : c ≤ c + n
   -- so an add gives the object that deadline
-  pub adds : (d : ℕ) → add n (timeout d 0 c) ≡ accept (timeout (c + n) 1 c) ok
+  pub adds : (d : ℕ) → add n (timeout d 0 c) ≡ accept (timeout (c + n) 1 c) ok ((c + n) ∷ [])
 
 -- lemma_abort_deactivates, which ends in `ensures true`: after abort on active timeout, active == false
 abbrev pub AbortDeactivates : Type 0
-AbortDeactivates = (d a c : ℕ) → 0 < a → abort (timeout d a c) ≡ accept (timeout d 0 c) ok
+AbortDeactivates = (d a c : ℕ) → 0 < a → abort (timeout d a c) ≡ accept (timeout d 0 c) ok []
 
 -- lemma_announce_fires_expired, which ensures what it requires: deadline <= current_tick + ticks. What is active and due fires
 abbrev pub FiresExpired : (d c n : ℕ) → Type 0
-FiresExpired d c n = (d ≤ c + n) × ((a : ℕ) → 0 < a → announce n (timeout d a c) ≡ accept (timeout d 0 (c + n)) (pos 1))
+FiresExpired d c n = (d ≤ c + n) × ((a : ℕ) → 0 < a → announce n (timeout d a c) ≡ accept (timeout d 0 (c + n)) (pos 1) [])
 
 -- lemma_tick_no_overflow: a + b < K_FOREVER_TICKS
 abbrev pub NoOverflow : (a b : ℕ) → Type 0
-NoOverflow a b = (a + b < never) × ((r : ℤ) → later r a b ≡ accept (a + b) r)
+NoOverflow a b = (a + b < never) × ((r : ℤ) → later r a b ≡ accept (a + b) r [])
 
 -- lemma_forever_never_expires: K_FOREVER_TICKS > current_tick + ticks. The clock moves, and nothing fires
 abbrev pub NeverExpires : (c n : ℕ) → Type 0
-NeverExpires c n = (c + n < never) × ((a : ℕ) → announce n (timeout never a c) ≡ accept (timeout never a (c + n)) ok)
+NeverExpires c n = (c + n < never) × ((a : ℕ) → announce n (timeout never a c) ≡ accept (timeout never a (c + n)) ok [])
 
 -- lemma_no_wait_always_expires: K_NO_WAIT_TICKS <= current_tick + ticks. It fires, also with 0 ticks
 abbrev pub AlwaysExpires : (c n : ℕ) → Type 0
-AlwaysExpires c n = (atOnce ≤ c + n) × ((a : ℕ) → 0 < a → announce n (timeout atOnce a c) ≡ accept (timeout atOnce 0 (c + n)) (pos 1))
+AlwaysExpires c n = (atOnce ≤ c + n) × ((a : ℕ) → 0 < a → announce n (timeout atOnce a c) ≡ accept (timeout atOnce 0 (c + n)) (pos 1) [])
 
 -- lemma_add_remaining_roundtrip: remaining == duration. Of the calls in memory: AddRemaining
 abbrev pub AddRoundtrip : (c n : ℕ) → Type 0
-AddRoundtrip c n = ((c + n) - c ≡ n) × (remaining (timeout (c + n) 1 c) ≡ accept n ok)
+AddRoundtrip c n = ((c + n) - c ≡ n) × (remaining (timeout (c + n) 1 c) ≡ accept (timeout (c + n) 1 c) ok (n ∷ []))
 
 -- lemma_timepoint_roundtrip: timeout == duration. Of the calls in memory: CalcTimeout
 abbrev pub TimepointRoundtrip : (c n : ℕ) → Type 0
-TimepointRoundtrip c n = (d a : ℕ) → (timepointCalc n (timeout d a c) ≡ accept (c + n) ok) × (timepointTimeout (c + n) (timeout d a c) ≡ accept n ok)
+TimepointRoundtrip c n =
+    (d a : ℕ) → (timepointCalc n (timeout d a c) ≡ accept (timeout d a c) ok ((c + n) ∷ []))
+    × (timepointTimeout (c + n) (timeout d a c) ≡ accept (timeout d a c) ok (n ∷ []))
 
 -- lemma_abort_then_add, which ends in `ensures true`: after abort, active == false, so add precondition is satisfied. In memory: AbortAdd
 abbrev pub AbortThenAdd : Type 0
 AbortThenAdd =
-    (d a c n : ℕ) → 0 < a → c + n < never → add n (left (abort (timeout d a c)) (timeout d a c)) ≡ accept (timeout (c + n) 1 c) ok
+    (d a c n : ℕ) → 0 < a → c + n < never → add n (left (abort (timeout d a c)) (timeout d a c)) ≡ accept (timeout (c + n) 1 c) ok ((c + n) ∷ [])

@@ -1,16 +1,15 @@
 -- How each answer of a function meets the timer's definition. Assumes nothing.
 use mathlib.Core.Path.{_≡_, refl}
-use mathlib.Core.List.{List, [], _∷_}
+use mathlib.Core.List.{List, []}
 use Prim.Native.Nat.{ℕ, suc, _≤_, _<_}
+use native.Mathlib.Omega.{arith}
 use lib.IntN.{ℤ, pos}
 use lib.ListN.{length, getD, set}
-use borrow.Author.Tests.{lt-ltb, le-leb, lt-leb, eq-eqb, ne-eqb}
-use native.Mathlib.Omega.{arith}
-use Rattle.seq.proofs.Words.{by-words}
+use borrow.Author.Tests.{lt-ltb, le-ltb, le-leb, lt-leb, eq-eqb, ne-eqb}
 use Rattle.thread.specs.Code.{ok, eoverflow, einval}
 use Rattle.store.specs.Store.{Reply, refuse, accept, Becomes, Did, looks}
-use Rattle.store.proofs.Laws.{did-bad, did-no, did-yes, start-short, start-made}
-use Rattle.timer.specs.Timer.{Timer, timer, most, unlessZero, expireDecide, start, stop, expire, statusGet}
+use Rattle.store.proofs.Laws.{less, did-bad, did-no, did-yes, Written, wrote, start-short, start-made}
+use Rattle.timer.specs.Timer.{Timer, timer, most, unlessZero, expireDecide, start, stop, expire, statusGet, fresh}
 use Rattle.timer.specs.Post.{Starts, StartsRunning, Stops, Expires, GetsStatus, place}
 
 pub zero-no : (n : ℕ) → n ≡ 0 → unlessZero n ≡ pos 0
@@ -24,15 +23,17 @@ module _ (s p : ℕ) where
   pub decide-most : s ≡ most → expireDecide s p ≡ refuse eoverflow
   decide-most e = rw e
 
-  pub decide-once : s < most → p ≡ 0 → expireDecide s p ≡ accept (suc s) (pos 0)
+  pub decide-once : s < most → p ≡ 0 → expireDecide s p ≡ accept (suc s) (pos 0) []
   decide-once b e = rw (lt-ltb s most b, zero-no p e)
 
-  pub decide-again : s < most → (p ≡ 0 → ⊥) → expireDecide s p ≡ accept (suc s) (pos 1)
+  pub decide-again : s < most → (p ≡ 0 → ⊥) → expireDecide s p ≡ accept (suc s) (pos 1) []
   decide-again b e = rw (lt-ltb s most b, other-yes p e)
 
--- a header of three words, and another
-becomes : (s p x s' p' x' : ℕ) (t : List ℕ) → 3 ≤ length (s ∷ p ∷ x ∷ t) → Becomes place (timer s' p' x') (s ∷ p ∷ x ∷ t) [] (s' ∷ p' ∷ x' ∷ t) []
-becomes s p x s' p' x' t k = record { formed = le-leb 3 (length (s' ∷ p' ∷ x' ∷ t)) k; object = refl; beside = refl; rest = refl; long = (refl, refl) }
+-- an expiry counts, or is refused
+pub by-expiry : (P : Reply Timer → Type 0) (t : Timer)
+    → (t .status < most → P (accept (timer (suc (t .status)) (t .period) (t .running)) (pos (suc (t .status))) []))
+    → (most ≤ t .status → P (refuse eoverflow)) → P (expire t)
+by-expiry P t f g = less (t .status) most (λ b. rw (lt-ltb (t .status) most b) (f b)) (λ b. rw (le-ltb (t .status) most b) (g b))
 
 module _ (h : List ℕ) where
   -- a header that is too short
@@ -50,22 +51,29 @@ module _ (h : List ℕ) where
     pub seen : (f : Timer → ℤ) → f (place .object h []) ≡ looks place f h []
     seen f = rw (le-leb 3 (length h) k)
 
+    module _ (t : List ℕ → Timer) (w : List ℕ → List ℕ) (e : Written place t w) where
+      becomes : Becomes place (t h) h [] (w h) []
+      becomes = wrote place t w e h k (λ o l. le-leb 3 (length (w h)) (omega arith))
+
+      did : (f : Timer → Reply Timer) {r : ℤ} → f (place .object h []) ≡ accept (t h) r [] → Did place f h [] r (w h) []
+      did f o = did-yes place f h [] (le-leb 3 (length h) k) o becomes
+
     pub init-made : (p : ℕ) → Starts p h ok (set (set (set h 0 0) 1 p) 2 0)
-    init-made p = by-words 3 (λ h. Starts p h ok (set (set (set h 0 0) 1 p) 2 0)) (λ s q x t. let j : 3 ≤ length (s ∷ q ∷ x ∷ t) = omega arith in start-made j refl (becomes s q x 0 p 0 t j)) h k
+    init-made p = start-made k refl (becomes (λ h. fresh p) (λ h. set (set (set h 0 0) 1 p) 2 0) (λ s q x t. (refl, refl, refl)))
 
     pub started : StartsRunning h ok (set (set h 0 0) 2 1)
-    started = by-words 3 (λ h. StartsRunning h ok (set (set h 0 0) 2 1)) (λ s p x t. let j : 3 ≤ length (s ∷ p ∷ x ∷ t) = omega arith in did-yes place start (s ∷ p ∷ x ∷ t) [] (le-leb 3 (length (s ∷ p ∷ x ∷ t)) j) refl (becomes s p x 0 p 1 t j)) h k
+    started = did (λ h. timer 0 (getD h 1 0) 1) (λ h. set (set h 0 0) 2 1) (λ s p x t. (refl, refl, refl)) start refl
 
     pub stopped : Stops h ok (set (set h 0 0) 2 0)
-    stopped = by-words 3 (λ h. Stops h ok (set (set h 0 0) 2 0)) (λ s p x t. let j : 3 ≤ length (s ∷ p ∷ x ∷ t) = omega arith in did-yes place stop (s ∷ p ∷ x ∷ t) [] (le-leb 3 (length (s ∷ p ∷ x ∷ t)) j) refl (becomes s p x 0 p 0 t j)) h k
+    stopped = did (λ h. timer 0 (getD h 1 0) 0) (λ h. set (set h 0 0) 2 0) (λ s p x t. (refl, refl, refl)) stop refl
 
     pub was-read : GetsStatus h (pos (getD h 0 0)) (set h 0 0)
-    was-read = by-words 3 (λ h. GetsStatus h (pos (getD h 0 0)) (set h 0 0)) (λ s p x t. let j : 3 ≤ length (s ∷ p ∷ x ∷ t) = omega arith in did-yes place statusGet (s ∷ p ∷ x ∷ t) [] (le-leb 3 (length (s ∷ p ∷ x ∷ t)) j) refl (becomes s p x 0 p x t j)) h k
+    was-read = did (λ h. timer 0 (getD h 1 0) (getD h 2 0)) (λ h. set h 0 0) (λ s p x t. (refl, refl, refl)) statusGet refl
 
     pub expire-most : getD h 0 0 ≡ most → Expires h eoverflow h
     expire-most e = did-no place expire h [] (le-leb 3 (length h) k) (rw e)
 
     pub expired : getD h 0 0 < most → Expires h (pos (suc (getD h 0 0))) (set h 0 (suc (getD h 0 0)))
     expired b =
-        by-words 3 (λ h. getD h 0 0 < most → Expires h (pos (suc (getD h 0 0))) (set h 0 (suc (getD h 0 0))))
-        (λ s p x t b. let j : 3 ≤ length (s ∷ p ∷ x ∷ t) = omega arith in did-yes place expire (s ∷ p ∷ x ∷ t) [] (le-leb 3 (length (s ∷ p ∷ x ∷ t)) j) (rw (lt-ltb s most b)) (becomes s p x (suc s) p x t j)) h k b
+        did (λ h. timer (suc (getD h 0 0)) (getD h 1 0) (getD h 2 0)) (λ h. set h 0 (suc (getD h 0 0))) (λ s p x t. (refl, refl, refl)) expire
+        (rw (lt-ltb (getD h 0 0) most b))

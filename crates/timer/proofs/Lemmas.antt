@@ -1,16 +1,14 @@
 -- Our contracts imply Gale's: the function on plain numbers, and the lemmas. Assumes nothing.
 use mathlib.Core.Path.{_≡_, refl, sym, ap, _∙_}
-use mathlib.Core.Bool.{Bool, true, false}
 use mathlib.Core.List.{[]}
-use mathlib.Core.Logic.{_⊎_, inl, inr}
-use Prim.Native.Nat.{ℕ, zero, suc, _<_}
+use mathlib.Core.Logic.{inl, inr}
+use Prim.Native.Nat.{ℕ, suc, _<_}
 use native.Mathlib.Omega.{arith}
 use native.Mathlib.Numerals.{add-one}
-use lib.Dec.{eqb}
 use lib.IntN.{ℤ, pos, negsuc}
-use borrow.Author.Tests.{lt-ltb, eqb-true, eqb-false}
+use borrow.Author.Tests.{lt-ltb}
 use Rattle.thread.specs.Upstream.{Tells}
-use Rattle.store.proofs.Laws.{decided, declined}
+use Rattle.store.proofs.Laws.{less, decided, declined}
 use Rattle.store.proofs.Histories.{done}
 use Rattle.timer.specs.Timer.{most}
 use Rattle.timer.specs.Post.{ExpireDecided, place}
@@ -22,21 +20,15 @@ module _ (s p m : ℕ) (r : ℤ) (m' : ℕ) (d : ExpireDecided s p m r m') where
   pub expire-decide : ExpireDecide s p m r m'
   expire-decide =
       record {
-        counted = λ b. go b (eqb p 0) refl .0 ∙ sym (add-one s);
+        counted = λ b. told b .0 ∙ sym (add-one s);
         stayed = λ e f. declined (decide-most s p e) d .1 ∙ f ∙ e;
-        periodic = λ b. go b (eqb p 0) refl .1;
+        periodic = λ b. told b .1;
       }
     where
-      go : s < most → (b : Bool) → eqb p 0 ≡ b → (m' ≡ suc s) × Tells (pos 1) (pos 0) r (0 < p)
-      go b true e =
-          let y = decided (decide-once s p b (eqb-true p 0 e)) d in
-          (y .1, inr (y .0, λ k. omega (arith, eqb-true p 0 e)))
-      go b false e =
-          let y = decided (decide-again s p b (eqb-false p 0 e)) d in
-          (y .1, inl (y .0, some p (eqb-false p 0 e)))
-        where
-          some : (p : ℕ) → (p ≡ 0 → ⊥) → 0 < p
-          some p f = omega arith
+      told : s < most → (m' ≡ suc s) × Tells (pos 1) (pos 0) r (0 < p)
+      told b =
+          less 0 p (λ k. let y = decided (decide-again s p b (λ e. omega arith)) d in (y .1, inl (y .0, k)))
+          (λ k. let y = decided (decide-once s p b (omega arith)) d in (y .1, inr (y .0, λ e. omega arith)))
 
   pub expire-decide-refuses : s ≡ most → (r ≡ negsuc 138) × (m' ≡ m)
   expire-decide-refuses e = declined (decide-most s p e) d
@@ -64,11 +56,7 @@ overflow-rejected p x = refl
 pub period-classification : (p : ℕ) → Classified p
 period-classification p =
     record {
-      either = go p;
+      either = less 0 p (λ k. inr k) (λ k. inl (omega arith));
       once = λ e s b. decide-once s p b e;
       again = λ e s b. decide-again s p b (λ z. omega arith);
     }
-  where
-    go : (p : ℕ) → (p ≡ 0) ⊎ (0 < p)
-    go zero = inl refl
-    go (suc p) = inr (omega arith)

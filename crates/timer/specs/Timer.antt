@@ -1,5 +1,6 @@
 -- The timer: how often it expired since it was last started, stopped or read.
 use mathlib.Core.Bool.{cond}
+use mathlib.Core.List.{[]}
 use Prim.Native.Nat.{ℕ, suc}
 use lib.Dec.{eqb, ltb}
 use lib.IntN.{ℤ, pos}
@@ -23,7 +24,7 @@ most = 4294967295
 
 -- what an expiry makes of the count, and that it answers a
 abbrev pub expires : (a : ℤ) → (status : ℕ) → Reply ℕ
-expires a status = cond (ltb status most) (accept (suc status) a) (refuse eoverflow)
+expires a status = cond (ltb status most) (accept (suc status) a []) (refuse eoverflow)
 
 -- no is 0, yes is 1
 abbrev pub unlessZero : ℕ → ℤ
@@ -38,14 +39,14 @@ abbrev pub expire : Timer → Reply Timer
 expire t = carry (λ n. timer n (t .period) (t .running)) (expires (pos (suc (t .status))) (t .status))
 
 abbrev pub start : Timer → Reply Timer
-start t = accept (timer 0 (t .period) 1) ok
+start t = accept (timer 0 (t .period) 1) ok []
 
 abbrev pub stop : Timer → Reply Timer
-stop t = accept (timer 0 (t .period) 0) ok
+stop t = accept (timer 0 (t .period) 0) ok []
 
 -- the count is told, and is 0 then
 abbrev pub statusGet : Timer → Reply Timer
-statusGet t = accept (timer 0 (t .period) (t .running)) (pos (t .status))
+statusGet t = accept (timer 0 (t .period) (t .running)) (pos (t .status)) []
 
 abbrev pub count : Timer → ℤ
 count t = pos (t .status)

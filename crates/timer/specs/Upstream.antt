@@ -124,5 +124,5 @@ OverflowRejected = (p x : ℕ) → expire (timer most p x) ≡ refuse eoverflow
 pub record Classified (period : ℕ) : Type 0 where
   pub either : (period ≡ 0) ⊎ (0 < period)
   -- so expire_decide tells the two apart
-  pub once : period ≡ 0 → (s : ℕ) → s < most → expireDecide s period ≡ accept (suc s) (pos 0)
-  pub again : 0 < period → (s : ℕ) → s < most → expireDecide s period ≡ accept (suc s) (pos 1)
+  pub once : period ≡ 0 → (s : ℕ) → s < most → expireDecide s period ≡ accept (suc s) (pos 0) []
+  pub again : 0 < period → (s : ℕ) → s < most → expireDecide s period ≡ accept (suc s) (pos 1) []

@@ -4,10 +4,10 @@ use mathlib.Core.Path.{sym, _∙_}
 use mathlib.Core.List.{[]}
 use mathlib.Core.Logic.{⊎-elim}
 use borrow.Author.Tests.{not-true, not-false}
-use Rattle.store.proofs.Laws.{did-bad}
+use Rattle.store.proofs.Laws.{either, did-bad}
 use Rattle.timeout.specs.Timeout as timeouts
 use Rattle.timeout.specs.Post.{place}
-use Rattle.timeout.proofs.Memory.{either, short, sound-ahead}
+use Rattle.timeout.proofs.Memory.{short, sound-ahead}
 use Rattle.timeout.proofs.Answers.{abort-none, aborted}
 use borrow.Author.Needs.{needs}
 use Rattle.timeout.proofs.abort.Statement.{statement}
@@ -22,7 +22,7 @@ slice-read-if2 c = search needs
 returns-2 : tie.Need-returns-2
 returns-2 c =
     let a = c .before .before .before .before .args in
-    either (a .h .now) (λ e. abort-none (a .h .now) e (omega arith)) (did-bad place timeouts.abort (a .h .now) [])
+    either (place .formed (a .h .now) []) (λ e. abort-none (a .h .now) e (omega arith)) (did-bad place timeouts.abort (a .h .now) [])
 
 slice-read-if3 : tie.Need-slice-read-if3
 slice-read-if3 c = search needs

@@ -1,15 +1,19 @@
 -- One law for each answer. Assumes nothing.
 use native.Mathlib.Omega.{arith}
 use mathlib.Core.Path.{sym, _∙_}
+use mathlib.Core.List.{[]}
 use lib.ListN.{length-set}
-use Rattle.timeout.proofs.Memory.{either, short, sound-idle}
-use Rattle.timeout.proofs.Answers.{add-bad, add-busy, add-late, added}
+use Rattle.store.proofs.Laws.{either, hands-bad}
+use Rattle.timeout.specs.Timeout as timeouts
+use Rattle.timeout.specs.Post.{place}
+use Rattle.timeout.proofs.Memory.{short, sound-idle}
+use Rattle.timeout.proofs.Answers.{add-busy, add-late, added}
 use borrow.Author.Needs.{needs}
 use Rattle.timeout.proofs.add.Statement.{statement}
 use Rattle.timeout.proofs.add.Tie as tie
 
 returns : tie.Need-returns
-returns c = let a = c .before .before .args in add-bad (a .h .now) (short (a .h .now) (omega arith)) (a .duration) (a .deadline .now)
+returns c = let a = c .before .before .args in hands-bad place (timeouts.add (a .duration)) (a .h .now) [] (a .deadline .now) (short (a .h .now) (omega arith))
 
 slice-read-if2 : tie.Need-slice-read-if2
 slice-read-if2 c = search needs
@@ -31,7 +35,7 @@ same-length-2 c = search needs
 returns-3 : tie.Need-returns-3
 returns-3 c =
     let a = c .before .before .before .before .before .before .before .args in
-    add-bad (a .h .now) (sym (c .before .formed .ensures) ∙ c .if3 .left) (a .duration) (a .deadline .now)
+    hands-bad place (timeouts.add (a .duration)) (a .h .now) [] (a .deadline .now) (sym (c .before .formed .ensures) ∙ c .if3 .left)
 
 slice-read-clock : tie.Need-slice-read-clock
 slice-read-clock c = search needs
@@ -42,8 +46,8 @@ sub-if4 c = omega (arith, c .slice-known3 .given 2)
 returns-4 : tie.Need-returns-4
 returns-4 c =
     let a = c .before .before .before .before .before .before .args in
-    either (a .h .now) (λ e. add-late (a .h .now) e (a .duration) (a .deadline .now) (omega arith) (omega arith))
-    (λ e. add-bad (a .h .now) e (a .duration) (a .deadline .now))
+    either (place .formed (a .h .now) []) (λ e. add-late (a .h .now) e (a .duration) (a .deadline .now) (omega arith) (omega arith))
+    (hands-bad place (timeouts.add (a .duration)) (a .h .now) [] (a .deadline .now))
 
 add-h : tie.Need-add-h
 add-h c = search needs

@@ -5,10 +5,10 @@ use mathlib.Core.List.{[]}
 use mathlib.Core.Logic.{⊎-elim}
 use lib.ListN.{length-set}
 use borrow.Author.Tests.{not-true, not-false}
-use Rattle.store.proofs.Laws.{did-bad}
+use Rattle.store.proofs.Laws.{either, did-bad}
 use Rattle.timeout.specs.Timeout as timeouts
 use Rattle.timeout.specs.Post.{place}
-use Rattle.timeout.proofs.Memory.{either, short, sound-idle, sound-ahead}
+use Rattle.timeout.proofs.Memory.{short, sound-idle, sound-ahead}
 use Rattle.timeout.proofs.Answers.{announce-none, announce-idle, announce-early, announce-fires}
 use borrow.Author.Needs.{needs}
 use Rattle.timeout.proofs.announce.Statement.{statement}
@@ -26,7 +26,8 @@ sub-if2 c = omega (arith, c .slice-known2 .given 2)
 returns-2 : tie.Need-returns-2
 returns-2 c =
     let a = c .before .before .before .before .args in
-    either (a .h .now) (λ e. announce-none (a .h .now) e (a .ticks) (omega arith)) (did-bad place (timeouts.announce (a .ticks)) (a .h .now) [])
+    either (place .formed (a .h .now) []) (λ e. announce-none (a .h .now) e (a .ticks) (omega arith))
+    (did-bad place (timeouts.announce (a .ticks)) (a .h .now) [])
 
 add-n : tie.Need-add-n
 add-n c = search needs
