@@ -1,21 +1,20 @@
 -- What each function's answer means for the ring. Assumes nothing.
-use mathlib.Core.Path.{_≡_, refl, sym, ap, _∙_}
+use mathlib.Core.Path.{_≡_, refl, ap, _∙_}
 use mathlib.Core.Bool.{true}
-use mathlib.Core.List.{List, [], _∷_, _++_}
+use mathlib.Core.List.{List, _∷_, _++_}
 use Prim.Native.Nat.{ℕ, _+_, _-_, _≤_, _<_, min}
 use native.Mathlib.Omega.{arith}
 use borrow.Author.Tests.{lt-ltb, le-ltb, lt-leb, le-leb}
 use lib.IntN.{pos}
-use lib.ListN.{length, take, drop, getD, set, drop-of-length-le}
+use lib.ListN.{length, take, drop, getD, set}
 use lib.Seq.{paste}
 use Rattle.seq.proofs.Words.{by-words}
 use Rattle.thread.specs.Code.{ok, eagain, einval}
-use Rattle.store.specs.Store.{answer, Becomes, Did, looks, handed, Filled}
-use Rattle.store.proofs.Laws.{any-some, any-none, looks-is, handed-is, start-short, start-bad, start-made}
+use Rattle.store.specs.Store.{Becomes, looks}
+use Rattle.store.proofs.Laws.{any-some, any-none, looks-is, start-short, start-bad, start-made}
 use Rattle.ring_buf.specs.Ring.{wrap, turn}
-use Rattle.ring_buf.specs.Bytes.{sound, held, bytes, new, get, getMany, peek, gotten, seen, sizeOf, spaceOf, capacityOf, headOf, tailOf, empty, full}
-use Rattle.ring_buf.specs.Post.{Starts, Puts, PutsN, Resets}
-use Rattle.ring_buf.proofs.Rings.{wrap-low}
+use Rattle.ring_buf.specs.Bytes.{sound, held, bytes, new, sizeOf, spaceOf, capacityOf, headOf, tailOf, empty, full}
+use Rattle.ring_buf.specs.Post.{Starts, Puts, Gets, PutsN, GetsN, PeeksAt, Resets}
 use Rattle.ring_buf.proofs.Parts.{beside}
 use Rattle.ring_buf.proofs.Headers.{Sound, is-sound, Words, words}
 use Rattle.ring_buf.proofs.Memory as memory
@@ -30,10 +29,11 @@ module _ (h b : List ℕ) (s : Sound h b) where
   pub put-done : (x a : ℕ) → getD h 2 0 < getD h 0 0 → a ≡ wrap (getD h 1 0 + getD h 2 0) (getD h 0 0) → Puts x h b ok (set h 2 (getD h 2 0 + 1)) (set b a x)
   put-done = rw (w .is) (memory.put-done (w .c) (w .t) (w .n) (w .rest) b (w .start) (w .size) (w .room))
 
-  pub get-empty : getD h 2 0 ≡ 0 → Did bytes get h b eagain h b
+  pub get-empty : (x : ℕ) → getD h 2 0 ≡ 0 → Gets h b x eagain h x
   get-empty = rw (w .is) (memory.get-empty (w .c) (w .t) (w .n) (w .rest) b (w .start) (w .size) (w .room))
 
-  pub get-done : (t : ℕ) → 0 < getD h 2 0 → t ≡ wrap (getD h 1 0 + 1) (getD h 0 0) → Did bytes get h b ok (set (set h 1 t) 2 (getD h 2 0 - 1)) b
+  pub get-done : (x a t : ℕ) → 0 < getD h 2 0 → a ≡ getD h 1 0 → t ≡ wrap (getD h 1 0 + 1) (getD h 0 0)
+      → Gets h b x ok (set (set h 1 t) 2 (getD h 2 0 - 1)) (getD b a 0)
   get-done = rw (w .is) (memory.get-done (w .c) (w .t) (w .n) (w .rest) b (w .start) (w .size) (w .room))
 
   -- with the words as they were read
@@ -42,16 +42,15 @@ module _ (h b : List ℕ) (s : Sound h b) where
   put-n-done c t n k l b' x y z =
       rw (x, y, z) (rw (w .is) (memory.put-n (w .c) (w .t) (w .n) (w .rest) b (w .start) (w .size) (w .room) k l b'))
 
-  pub get-n-done : (c t n o k t' : ℕ) → c ≡ getD h 0 0 → t ≡ getD h 1 0 → n ≡ getD h 2 0 → k ≡ min o n → t' ≡ wrap (t + k) c
-      → Did bytes (getMany o) h b (pos k) (set (set h 1 t') 2 (n - k)) b
-  get-n-done c t n o k t' x y z = rw (x, y, z) (rw (w .is) (memory.get-n (w .c) (w .t) (w .n) (w .rest) b (w .start) (w .size) (w .room) o k t'))
+  pub get-n-done : (c t n : ℕ) (o o' q : List ℕ) (k t' : ℕ) → c ≡ getD h 0 0 → t ≡ getD h 1 0 → n ≡ getD h 2 0 → k ≡ min (length o) n → t' ≡ wrap (t + k) c
+      → q ≡ take (length (take k o)) (turn t (take c b)) → o' ≡ q ++ drop k o → GetsN h b o (pos k) (set (set h 1 t') 2 (n - k)) o'
+  get-n-done c t n o o' q k t' x y z = rw (x, y, z) (rw (w .is) (memory.get-n (w .c) (w .t) (w .n) (w .rest) b (w .start) (w .size) (w .room) o o' q k t'))
 
-  pub get-n-out : (c t n : ℕ) (o o' q : List ℕ) (k : ℕ) → c ≡ getD h 0 0 → t ≡ getD h 1 0 → n ≡ getD h 2 0 → k ≡ min (length o) n
-      → q ≡ take (length (take k o)) (turn t (take c b)) → o' ≡ q ++ drop k o → Filled (handed bytes (gotten (length o)) h b) o o'
-  get-n-out c t n o o' q k x y z = rw (x, y, z) (rw (w .is) (memory.get-n-out (w .c) (w .t) (w .n) (w .rest) b (w .start) (w .size) (w .room) o o' q k))
+  pub peek-past : (x i : ℕ) → getD h 2 0 ≤ i → PeeksAt i h b x einval x
+  peek-past = rw (w .is) (memory.peek-past (w .c) (w .t) (w .n) (w .rest) b (w .start) (w .size) (w .room))
 
-  pub seen-is : (i a : ℕ) → i < getD h 2 0 → a ≡ wrap (getD h 1 0 + i) (getD h 0 0) → handed bytes (seen i) h b ≡ getD b a 0 ∷ []
-  seen-is = rw (w .is) (memory.sees (w .c) (w .t) (w .n) (w .rest) b (w .start) (w .size) (w .room))
+  pub peek-done : (x i a : ℕ) → i < getD h 2 0 → a ≡ wrap (getD h 1 0 + i) (getD h 0 0) → PeeksAt i h b x ok (getD b a 0)
+  peek-done = rw (w .is) (memory.peek-done (w .c) (w .t) (w .n) (w .rest) b (w .start) (w .size) (w .room))
 
   pub reset-done : Resets h b ok (set (set h 1 0) 2 0)
   reset-done = rw (w .is) (memory.clears (w .c) (w .t) (w .n) (w .rest) b (w .start) (w .size) (w .room))
@@ -93,29 +92,6 @@ module _ (h b : List ℕ) (s : Sound h b) where
 
   pub free-told : (getD h 2 0 ≡ getD h 0 0 → ⊥) → looks bytes full h b ≡ pos 0
   free-told f = looks-is bytes h b full fine ∙ rw (any-some (held h b .spare) (omega (arith, spare-is, s .size))) refl
-
-  -- ---- what a peek is answered
-
-  pub peek-past : (i : ℕ) → getD h 2 0 ≤ i → looks bytes (λ r. answer (peek i r)) h b ≡ einval
-  peek-past i f = looks-is bytes h b (λ r. answer (peek i r)) fine ∙ rw (le-ltb i (length (held h b .held)) (omega (arith, held-is))) refl
-
-  pub peek-ok : (i : ℕ) → i < getD h 2 0 → looks bytes (λ r. answer (peek i r)) h b ≡ ok
-  peek-ok i f = looks-is bytes h b (λ r. answer (peek i r)) fine ∙ rw (lt-ltb i (length (held h b .held)) (omega (arith, held-is))) refl
-
-  pub none-seen : (i : ℕ) → getD h 2 0 ≤ i → handed bytes (seen i) h b ≡ []
-  none-seen i f = handed-is bytes h b (seen i) fine ∙ ap (take 1) (drop-of-length-le (held h b .held) {i = i} (omega (arith, held-is)))
-
-  pub none-gotten : getD h 2 0 ≡ 0 → handed bytes (gotten 1) h b ≡ []
-  none-gotten e = handed-is bytes h b (gotten 1) fine ∙ none-left (held h b .held) (held-is ∙ e)
-    where
-      none-left : (l : List ℕ) → length l ≡ 0 → take 1 l ≡ []
-      none-left [] z = refl
-      none-left (x ∷ l) z = absurd (omega arith)
-
-  pub got-first : 0 < getD h 2 0 → handed bytes (gotten 1) h b ≡ getD b (getD h 1 0) 0 ∷ []
-  got-first f =
-      let z : getD h 1 0 + 0 ≡ getD h 1 0 = omega arith in
-      handed-is bytes h b (gotten 1) fine ∙ sym (handed-is bytes h b (seen 0) fine) ∙ seen-is 0 (getD h 1 0) f (sym (ap (λ (x : ℕ). wrap x (getD h 0 0)) z ∙ wrap-low (getD h 1 0) (getD h 0 0) (s .start)))
 
 -- a new ring
 module _ (h b : List ℕ) (c : ℕ) where

@@ -5,16 +5,17 @@ use mathlib.Core.List.{List, [], _∷_, _++_}
 use Prim.Native.Nat.{ℕ, suc, _+_, _-_, _≤_, _<_, min}
 use native.Mathlib.Omega.{arith}
 use native.Mathlib.Numerals.{add-one}
+use borrow.Author.Tests.{lt-ltb, le-ltb}
 use lib.IntN.{pos}
 use lib.ListN.{length, take, drop, getD, set, length-set, length-take}
 use lib.Seq.{set-split, append-snoc, take-all, take-take, paste, length-take-le, getD-take, drop-cons}
-use Rattle.thread.specs.Code.{ok, eagain}
-use Rattle.store.specs.Store.{accept, Becomes, Did, handed, Filled}
-use Rattle.store.proofs.Laws.{any-some, any-none, did-no, did-yes, handed-is}
+use Rattle.thread.specs.Code.{ok, eagain, einval}
+use Rattle.store.specs.Store.{accept, Becomes}
+use Rattle.store.proofs.Laws.{any-some, any-none, did-no, did-yes, fills-yes, hands-no, hands-yes, as-was}
 use Rattle.ring_buf.specs.Ring.{Ring, wrap, turn, ring, append, leave}
-use Rattle.ring_buf.specs.Bytes.{sound, bytes, put, get, putMany, getMany, reset, gotten, seen}
-use Rattle.ring_buf.specs.Post.{Puts, PutsN, Resets}
-use Rattle.ring_buf.proofs.Rings.{by-lt, drop-take, wrap-below, length-turn, turn-part, appended, left, cleared, held-long, spare-long}
+use Rattle.ring_buf.specs.Bytes.{sound, bytes, put, get, putMany, getMany, peek, reset}
+use Rattle.ring_buf.specs.Post.{Puts, Gets, PutsN, GetsN, PeeksAt, Resets}
+use Rattle.ring_buf.proofs.Rings.{by-lt, drop-take, wrap-low, wrap-below, length-turn, turn-part, appended, left, cleared, held-long, spare-long}
 use Rattle.ring_buf.proofs.Parts.{piece, beside}
 use Rattle.ring_buf.proofs.Headers.{is-sound, words}
 
@@ -65,17 +66,29 @@ module _ (c t n : ℕ) (rest b : List ℕ) (h : t < c) (size : n ≤ c) (room : 
   put-done x a f e =
       let w = wrap-below (t + n) c (omega arith) in
       let p = set-paste b a x (omega arith) in
-      did-yes bytes (put x) H b good (rw (any-some (drop n (turn t B)) (omega (arith, spared))) refl)
+      did-yes bytes (put x) H b {l = []} good (rw (any-some (drop n (turn t B)) (omega (arith, spared))) refl)
       (becomes t (n + 1) (set b a x) h (omega arith) (length-set b a x) (ap (drop c) p ∙ beside c t n a 1 b (x ∷ []) h room e (omega arith) (omega arith) (omega arith))
       (appended c t n B long h size 1 (take c (set b a x)) (x ∷ []) (omega arith) (omega arith)
       (ap (λ (l : List ℕ). turn t (take c l)) p ∙ piece c t n a 1 b (x ∷ []) h room e (omega arith) (omega arith) (omega arith))))
 
-  pub get-empty : n ≡ 0 → Did bytes get H b eagain H b
-  get-empty e = did-no bytes get H b good (rw (any-none (take n (turn t B)) (omega (arith, hold))) refl)
+  -- the byte behind i others stands at the place a
+  sees : (i a : ℕ) → i < n → a ≡ wrap (t + i) c → take 1 (drop i (take n (turn t B))) ≡ getD b a 0 ∷ []
+  sees i a f e =
+      let d : drop i (take n (turn t B)) ≡ take (n - i) (drop i (turn t B)) = drop-take i n (turn t B) in
+      let w = wrap-below (t + i) c (omega arith) in
+      ap (take 1) d ∙ take-take 1 (n - i) (drop i (turn t B)) (omega arith)
+      ∙ sym (turn-part t i 1 a B (omega (arith, long)) (omega (arith, long)) (e ∙ ap (wrap (t + i)) (sym long)) (omega (arith, w, long)))
+      ∙ ap (take 1) (drop-cons B a 0 (omega (arith, w, long))) ∙ ap (λ (x : ℕ). x ∷ []) (getD-take c b a 0 (omega (arith, w)))
 
-  pub get-done : (t' : ℕ) → 0 < n → t' ≡ wrap (t + 1) c → Did bytes get H b ok (c ∷ t' ∷ (n - 1) ∷ rest) b
-  get-done t' f e =
-      did-yes bytes get H b good (rw (any-some (take n (turn t B)) (omega (arith, hold))) refl)
+  pub get-empty : (x : ℕ) → n ≡ 0 → Gets H b x eagain H x
+  get-empty x e = hands-no bytes get H b x good (rw (any-none (take n (turn t B)) (omega (arith, hold))) refl)
+
+  pub get-done : (x a t' : ℕ) → 0 < n → a ≡ t → t' ≡ wrap (t + 1) c → Gets H b x ok (c ∷ t' ∷ (n - 1) ∷ rest) (getD b a 0)
+  get-done x a t' f g e =
+      let z : t + 0 ≡ t = omega arith in
+      let w : a ≡ wrap (t + 0) c = g ∙ sym (ap (λ (y : ℕ). wrap y c) z ∙ wrap-low t c h) in
+      hands-yes bytes get H b x {l = getD b a 0 ∷ []} good
+      (rw (any-some (take n (turn t B)) (omega (arith, hold))) (ap (accept (leave 1 (ring c t n B)) ok) (sees 0 a f w)))
       (becomes t' (n - 1) b (omega (arith, wrap-below (t + 1) c (omega arith))) (omega arith) refl refl
       (ap (λ (x : ℕ). ring c x (n - 1) B) e ∙ left c t n B long h size 1 f))
 
@@ -85,32 +98,31 @@ module _ (c t n : ℕ) (rest b : List ℕ) (h : t < c) (size : n ≤ c) (room : 
       let m : length (take k s) ≡ k = length-take k s ∙ omega arith in
       let x : k ≡ min (length s) (length (drop n (turn t B))) = e ∙ ap (min (length s)) (sym spared) in
       let y : take (length (take k s)) (take k s) ≡ take k s = take-all (length (take k s)) (take k s) (omega arith) in
-      did-yes bytes (putMany s) H b good (λ i. accept (append (take (sym x i) s) (ring c t n B)) (pos (sym x i)))
+      did-yes bytes (putMany s) H b good (λ i. accept (append (take (sym x i) s) (ring c t n B)) (pos (sym x i)) [])
       (becomes t (n + k) b' h (omega arith) l d
       (ap (λ (j : ℕ). ring c t (n + j) (take c b')) (sym m)
       ∙ appended c t n B long h size (length (take k s)) (take c b') (take k s) (omega arith) (omega arith) w ∙ ap (λ (q : List ℕ). append q (ring c t n B)) y))
 
-  pub get-n : (o k t' : ℕ) → k ≡ min o n → t' ≡ wrap (t + k) c → Did bytes (getMany o) H b (pos k) (c ∷ t' ∷ (n - k) ∷ rest) b
-  get-n o k t' e w =
-      let x : k ≡ min o (length (take n (turn t B))) = e ∙ ap (min o) (sym hold) in
-      did-yes bytes (getMany o) H b good (λ i. accept (leave (sym x i) (ring c t n B)) (pos (sym x i)))
+  pub get-n : (o o' q : List ℕ) (k t' : ℕ) → k ≡ min (length o) n → t' ≡ wrap (t + k) c → q ≡ take (length (take k o)) (turn t B) → o' ≡ q ++ drop k o
+      → GetsN H b o (pos k) (c ∷ t' ∷ (n - k) ∷ rest) o'
+  get-n o o' q k t' e w is all =
+      let m : length (take k o) ≡ k = length-take k o ∙ omega arith in
+      let x : k ≡ min (length o) (length (take n (turn t B))) = e ∙ ap (min (length o)) (sym hold) in
+      let y : take (length o) (take n (turn t B)) ≡ q =
+      take-take-least (length o) n (turn t B) ∙ ap (λ (j : ℕ). take j (turn t B)) (sym e ∙ sym m) ∙ sym is in
+      let z : k ≡ length q = sym (ap length is ∙ length-take (length (take k o)) (turn t B) ∙ omega (arith, length-turn t B (omega (arith, long)), long)) in
+      fills-yes bytes (getMany (length o)) H b o good (λ i. accept (leave (sym x i) (ring c t n B)) (pos (sym x i)) (y i))
       (becomes t' (n - k) b (omega (arith, wrap-below (t + k) c (omega arith))) (omega arith) refl refl
       (ap (λ (y : ℕ). ring c y (n - k) B) w ∙ left c t n B long h size k (omega arith)))
+      (all ∙ ap (λ (j : ℕ). q ++ drop j o) z)
+
+  pub peek-past : (x i : ℕ) → n ≤ i → PeeksAt i H b x einval x
+  peek-past x i f = hands-no bytes (peek i) H b x good (rw (le-ltb i (length (take n (turn t B))) (omega (arith, hold))) refl)
+
+  pub peek-done : (x i a : ℕ) → i < n → a ≡ wrap (t + i) c → PeeksAt i H b x ok (getD b a 0)
+  peek-done x i a f e =
+      hands-yes bytes (peek i) H b x {l = getD b a 0 ∷ []} good
+      (rw (lt-ltb i (length (take n (turn t B))) (omega (arith, hold))) (ap (accept (ring c t n B) ok) (sees i a f e))) (as-was bytes H b good)
 
   pub clears : Resets H b ok (c ∷ 0 ∷ 0 ∷ rest)
   clears = did-yes bytes reset H b good refl (becomes 0 0 b (omega arith) (omega arith) refl refl (cleared c t n B long h size))
-
-  pub get-n-out : (o o' q : List ℕ) (k : ℕ) → k ≡ min (length o) n → q ≡ take (length (take k o)) (turn t B) → o' ≡ q ++ drop k o → Filled (handed bytes (gotten (length o)) H b) o o'
-  get-n-out o o' q k e w is =
-      let m : length (take k o) ≡ k = length-take k o ∙ omega arith in
-      let x : take (length o) (take n (turn t B)) ≡ take k (turn t B) = take-take-least (length o) n (turn t B) ∙ ap (λ (j : ℕ). take j (turn t B)) (sym e) in
-      let y : handed bytes (gotten (length o)) H b ≡ q = handed-is bytes H b (gotten (length o)) good ∙ x ∙ ap (λ (j : ℕ). take j (turn t B)) (sym m) ∙ sym w in
-      let z : k ≡ length q = sym (ap length w ∙ length-take (length (take k o)) (turn t B) ∙ omega (arith, length-turn t B (omega (arith, long)), long)) in
-      is ∙ (λ i. sym y i ++ drop ((z ∙ ap length (sym y)) i) o)
-
-  pub sees : (i a : ℕ) → i < n → a ≡ wrap (t + i) c → handed bytes (seen i) H b ≡ getD b a 0 ∷ []
-  sees i a f e =
-      let d : drop i (take n (turn t B)) ≡ take (n - i) (drop i (turn t B)) = drop-take i n (turn t B) in
-      handed-is bytes H b (seen i) good ∙ ap (take 1) d ∙ take-take 1 (n - i) (drop i (turn t B)) (omega arith)
-      ∙ sym (turn-part t i 1 a B (omega (arith, long)) (omega (arith, long)) (e ∙ ap (wrap (t + i)) (sym long)) (omega (arith, wrap-below (t + i) c (omega arith), long)))
-      ∙ ap (take 1) (drop-cons B a 0 (omega (arith, wrap-below (t + i) c (omega arith), long))) ∙ ap (λ (x : ℕ). x ∷ []) (getD-take c b a 0 (omega (arith, wrap-below (t + i) c (omega arith))))

@@ -1,5 +1,5 @@
 -- Steps that are made in memory are steps of the object that it holds. Assumes nothing.
-use mathlib.Core.Path.{_≡_, refl, sym, ap, subst, _∙_}
+use mathlib.Core.Path.{_≡_, refl, sym, ap, subst}
 use mathlib.Core.Bool.{Bool, true, false, cond}
 use mathlib.Core.List.{List, [], _∷_}
 use Prim.Native.Nat.{ℕ, _≤_}
@@ -8,9 +8,9 @@ use lib.Dec.{leb}
 use lib.IntN.{ℤ}
 use lib.ListN.{length}
 use Rattle.thread.specs.Code.{ok, einval}
-use Rattle.store.specs.Store.{Reply, refuse, accept, answer, left, out, Place, After, Did, looks, Filled, first, Started}
+use Rattle.store.specs.Store.{Reply, refuse, accept, answer, left, out, Place, reply, After, Did, Filled, first, Hands, Started}
 use Rattle.store.specs.History.{Step, Ran, fresh, ran, Made, begun, made}
-use Rattle.store.proofs.Laws.{replies, answers, did-bad, looks-is, looks-bad, handed-is}
+use Rattle.store.proofs.Laws.{replies, answers, handed-is}
 
 module _ {S : Type 0} (P : Place S) where
   leaves : (y : Reply S) (h b h' b' : List ℕ) → P .formed h b ≡ true → After P y h b h' b'
@@ -22,22 +22,6 @@ module _ {S : Type 0} (P : Place S) where
   pub done : (f : S → Reply S) (h b : List ℕ) {r : ℤ} {h' b' : List ℕ} → P .formed h b ≡ true → Did P f h b r h' b'
       → (P .formed h' b' ≡ true) × (P .object h' b' ≡ left (f (P .object h b)) (P .object h b))
   done f h b {h' = h'} {b' = b'} e d = leaves (f (P .object h b)) h b h' b' e (subst (λ (y : Reply S). After P y h b h' b') (replies P f h b e) (d .after))
-
-  -- a call that only reads
-  pub did-look : (f : S → Reply S) (h b : List ℕ) {r : ℤ} → ((s : S) → left (f s) s ≡ s) → r ≡ looks P (λ s. answer (f s)) h b → Did P f h b r h b
-  did-look f h b {r} n e = go (P .formed h b) refl
-    where
-      after : (y : Reply S) → P .formed h b ≡ true → left y (P .object h b) ≡ P .object h b → After P y h b h b
-      after (refuse c) k l = (refl, refl)
-      after (accept s c o) k l = record { formed = k; object = sym l; beside = refl; rest = refl; long = (refl, refl) }
-
-      go : (x : Bool) → P .formed h b ≡ x → Did P f h b r h b
-      go true k =
-          record {
-            code = e ∙ looks-is P h b (λ s. answer (f s)) k ∙ sym (ap answer (replies P f h b k));
-            after = subst (λ (y : Reply S). After P y h b h b) (sym (replies P f h b k)) (after (f (P .object h b)) k (n (P .object h b)));
-          }
-      go false k = subst (λ (c : ℤ). Did P f h b c h b) (sym (e ∙ looks-bad P h b (λ s. answer (f s)) k)) (did-bad P f h b k)
 
 -- a place for one
 pub first-filled : (l : List ℕ) (x y : ℕ) → length l ≤ 1 → y ≡ first x l → Filled l (x ∷ []) (y ∷ [])
@@ -58,6 +42,15 @@ module _ {S K : Type 0} (P : Place S) (does : K → S → Reply S) where
             (subst (λ (z : ℤ). Ran does (P .object h₀ b₀) (record { call = k; answer = z; out = o' } ∷ ss) (left (does k (P .object h b)) (P .object h b)))
             (sym (answers P (does k) h b d (a .0))) (ran o o' (a .1) g)),
       )
+
+  -- what hands a word out is a step too: its place is that word
+  pub hands-made : {h₀ b₀ h b h' : List ℕ} {ss : List (Step K)} {r : ℤ} (k : K) (x y : ℕ) → ((s : S) → length (out (does k s)) ≤ 1) → Made P does h₀ b₀ ss h b
+      → Hands P (does k) h b x r h' y → Made P does h₀ b₀ (record { call = k; answer = r; out = y ∷ [] } ∷ ss) h' b
+  hands-made {h = h} {b} k x y n m (d, e) = made (x ∷ []) (y ∷ []) m d (first-filled (out (reply P (does k) h b)) x y (one (P .formed h b)) e)
+    where
+      one : (c : Bool) → length (out (cond c (does k (P .object h b)) (refuse einval))) ≤ 1
+      one true = n (P .object h b)
+      one false = omega arith
 
   -- after a start that is answered 0
   pub from-start : {m : Bool} {s : S} {h b h₀ b₀ : List ℕ} → Started P m s h b ok h₀ b₀ → {ss : List (Step K)} {h' b' : List ℕ} → Made P does h₀ b₀ ss h' b'
