@@ -8,15 +8,15 @@ use lib.IntN.{ℤ}
 use lib.ListN.{length, take, drop, getD}
 use lib.Seq.{take-add, length-take-le}
 use Rattle.seq.specs.Only.{Only}
-use Rattle.seq.proofs.Only.{said, two, back-alike}
+use Rattle.seq.proofs.Only.{said, back-alike}
 use Rattle.store.specs.Store.{Reply}
 use Rattle.store.specs.Determined.{Faithful}
-use Rattle.store.proofs.Determined.{did-only, reads-only, hands-only, starts-only, decided-only}
+use Rattle.store.proofs.Determined.{did-only, reads-only, fills-only, starts-only, decided-only}
 use Rattle.ring_buf.specs.Ring.{turn, ring}
 use Rattle.ring_buf.proofs.Rings.{length-turn}
 use Rattle.ring_buf.proofs.Determined.{ring-only}
 use Rattle.msgq.specs.Messages.{slots}
-use Rattle.msgq.specs.Msgq.{Msgq, Numbers, put, putFront, get, purge}
+use Rattle.msgq.specs.Msgq.{Msgq, Numbers, put, putFront, get, peek, purge}
 use Rattle.msgq.specs.Post.{held, messages, new, may, putDecision, getDecision, putFrontDecision, peekDecision, Settled}
 use Rattle.msgq.specs.Determined.{Determined}
 use Rattle.msgq.proofs.Slots.{length-slots}
@@ -73,8 +73,8 @@ determined =
       init = λ size n h b. starts-only faithful h b (may size n b) (new size n b);
       put = λ m h b. did-only faithful h b (put m);
       put-front = λ m h b. did-only faithful h b (putFront m);
-      get = λ h b out. hands-only faithful h b (get (length out)) _ (said _);
-      peek-at = λ i h b out. two _ _ (said _) (said _);
+      get = λ h b out. fills-only faithful h b (get (length out)) out;
+      peek-at = λ i h b out p q m n. let k = fills-only faithful h b (peek (length out) i) out (p .0, h, p .1) (q .0, h, q .1) m n in λ j. (k j .0, k j .2);
       purge = λ h b. reads-only faithful h b purge;
       num-free-get = λ h b. said _;
       num-used-get = λ h b. said _;

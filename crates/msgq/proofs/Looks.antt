@@ -4,17 +4,15 @@ use mathlib.Core.Bool.{true}
 use mathlib.Core.List.{List, [], _++_, append-nil}
 use Prim.Native.Nat.{ℕ, _+_, _-_, _*_, _≤_, _<_}
 use native.Mathlib.Omega.{arith}
-use borrow.Author.Tests.{lt-ltb, le-ltb, eq-eqb}
 use lib.IntN.{ℤ, pos}
-use lib.ListN.{length, take, drop, getD, drop-of-length-le, List·getD-eq-default}
+use lib.ListN.{length, take, drop, getD, drop-of-length-le}
 use lib.Seq.{getD-take}
-use Rattle.thread.specs.Code.{ok, enomsg}
-use Rattle.store.specs.Store.{answer, looks, handed, Filled}
+use Rattle.store.specs.Store.{looks, Filled}
 use Rattle.store.proofs.Laws.{any-some, any-none, looks-is}
 use Rattle.ring_buf.specs.Ring.{wrap, turn}
 use Rattle.ring_buf.proofs.Rings.{wrap-low, wrap-below, held-long, spare-long}
 use Rattle.msgq.specs.Messages.{slots}
-use Rattle.msgq.specs.Msgq.{Msgq, peek, seen, numFree, numUsed, writeAt, full, empty}
+use Rattle.msgq.specs.Msgq.{Msgq, numFree, numUsed, writeAt, full, empty}
 use Rattle.msgq.specs.Post.{sound, held, messages}
 use Rattle.msgq.proofs.Slots.{length-slots, slot-room, slot-at, slot-long, turn-at}
 use Rattle.msgq.proofs.Headers.{Sound, is-sound}
@@ -86,25 +84,13 @@ module _ (h b : List ℕ) (s : Sound h b) where
   pub empty-no : (n ≡ 0 → ⊥) → pos 0 ≡ looks messages empty h b
   empty-no e = rw (good, any-some (take n (turn t S)) (omega (arith, hold)))
 
-  module _ (o : List ℕ) (i : ℕ) where
-    pub peek-past : length o ≡ z → n ≤ i → enomsg ≡ looks messages (λ (q : Msgq). answer (peek (length o) i q)) h b
-    peek-past e f = rw (good, eq-eqb (length o) z e, hold, le-ltb i n f)
-
-    pub peek-done : length o ≡ z → i < n → ok ≡ looks messages (λ (q : Msgq). answer (peek (length o) i q)) h b
-    peek-done e f = rw (good, eq-eqb (length o) z e, hold, lt-ltb i n f)
-
-    -- the message i in the slot a
-    pub shown : (a : ℕ) (o' : List ℕ) → length o ≡ z → i < n → a ≡ wrap (t + i) c → o' ≡ take (length o) (drop (a * length o) b)
-        → Filled (handed messages (seen (length o) i) h b) o o'
-    shown a o' e f v w =
-        let g = wrap-below (t + i) c (omega (arith, s .within .idx, s .within .used)) in
-        let x : getD (take n (turn t S)) i [] ≡ take z (drop (a * z) b) =
-        getD-take n (turn t S) i [] f ∙ turn-at t i a S [] (omega (arith, many, s .within .idx)) (omega (arith, many, s .within .used)) (v ∙ ap (wrap (t + i)) (sym many))
-        ∙ slot-at z c a b (omega arith) in
-        rw (good, eq-eqb (length o) z e)
-        (fill (getD (take n (turn t S)) i []) o o' (ap length x ∙ slot-long z c a b (omega arith) (s .room .long) ∙ sym e)
-        (w ∙ ap (λ (k : ℕ). take k (drop (a * k) b)) e ∙ sym x))
-
-    -- past the end there is none
-    pub unseen : length o ≡ z → n ≤ i → Filled (handed messages (seen (length o) i) h b) o o
-    unseen e f = rw (good, eq-eqb (length o) z e) (rw (List·getD-eq-default (take n (turn t S)) [] {n = i} (omega (arith, hold))))
+  -- the message i stands in the slot a
+  pub shown : (o : List ℕ) (i a : ℕ) (o' : List ℕ) → length o ≡ z → i < n → a ≡ wrap (t + i) c → o' ≡ take (length o) (drop (a * length o) b)
+      → Filled (getD (take n (turn t S)) i []) o o'
+  shown o i a o' e f v w =
+      let g = wrap-below (t + i) c (omega (arith, s .within .idx, s .within .used)) in
+      let x : getD (take n (turn t S)) i [] ≡ take z (drop (a * z) b) =
+      getD-take n (turn t S) i [] f ∙ turn-at t i a S [] (omega (arith, many, s .within .idx)) (omega (arith, many, s .within .used)) (v ∙ ap (wrap (t + i)) (sym many))
+      ∙ slot-at z c a b (omega arith) in
+      fill (getD (take n (turn t S)) i []) o o' (ap length x ∙ slot-long z c a b (omega arith) (s .room .long) ∙ sym e)
+      (w ∙ ap (λ (k : ℕ). take k (drop (a * k) b)) e ∙ sym x)
