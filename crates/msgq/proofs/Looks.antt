@@ -1,25 +1,22 @@
 -- What is read of a queue in memory. Assumes nothing.
 use mathlib.Core.Path.{_≡_, sym, ap, _∙_}
 use mathlib.Core.Bool.{true}
-use mathlib.Core.List.{List, [], _++_, append-nil}
+use mathlib.Core.List.{List, []}
 use Prim.Native.Nat.{ℕ, _+_, _-_, _*_, _≤_, _<_}
 use native.Mathlib.Omega.{arith}
 use lib.IntN.{ℤ, pos}
-use lib.ListN.{length, take, drop, getD, drop-of-length-le}
+use lib.ListN.{length, take, drop, getD}
 use lib.Seq.{getD-take}
 use Rattle.store.specs.Store.{looks, Filled}
 use Rattle.store.proofs.Laws.{any-some, any-none, looks-is}
 use Rattle.ring_buf.specs.Ring.{wrap, turn}
 use Rattle.ring_buf.proofs.Rings.{wrap-low, wrap-below, held-long, spare-long}
+use Rattle.ring_buf.proofs.Parts.{whole}
 use Rattle.msgq.specs.Messages.{slots}
 use Rattle.msgq.specs.Msgq.{Msgq, numFree, numUsed, writeAt, full, empty}
 use Rattle.msgq.specs.Post.{sound, held, messages}
 use Rattle.msgq.proofs.Slots.{length-slots, slot-room, slot-at, slot-long, turn-at}
 use Rattle.msgq.proofs.Headers.{Sound, is-sound}
-
--- a place that has the length of what is handed out
-fill : (l o o' : List ℕ) → length l ≡ length o → o' ≡ l → Filled l o o'
-fill l o o' e f = f ∙ sym (ap (λ (x : List ℕ). l ++ x) (drop-of-length-le o {i = length l} (omega arith)) ∙ append-nil l)
 
 module _ (h b : List ℕ) (s : Sound h b) where
   abbrev c : ℕ
@@ -85,12 +82,16 @@ module _ (h b : List ℕ) (s : Sound h b) where
   empty-no e = rw (good, any-some (take n (turn t S)) (omega (arith, hold)))
 
   -- the message i stands in the slot a
+  pub placed : (i a : ℕ) → i < n → a ≡ wrap (t + i) c → getD (take n (turn t S)) i [] ≡ getD S a []
+  placed i a f v =
+      getD-take n (turn t S) i [] f
+      ∙ turn-at t i a S [] (omega (arith, many, s .within .idx)) (omega (arith, many, s .within .used)) (v ∙ ap (wrap (t + i)) (sym many))
+
+  -- and fills a place of its size
   pub shown : (o : List ℕ) (i a : ℕ) (o' : List ℕ) → length o ≡ z → i < n → a ≡ wrap (t + i) c → o' ≡ take (length o) (drop (a * length o) b)
       → Filled (getD (take n (turn t S)) i []) o o'
   shown o i a o' e f v w =
       let g = wrap-below (t + i) c (omega (arith, s .within .idx, s .within .used)) in
-      let x : getD (take n (turn t S)) i [] ≡ take z (drop (a * z) b) =
-      getD-take n (turn t S) i [] f ∙ turn-at t i a S [] (omega (arith, many, s .within .idx)) (omega (arith, many, s .within .used)) (v ∙ ap (wrap (t + i)) (sym many))
-      ∙ slot-at z c a b (omega arith) in
-      fill (getD (take n (turn t S)) i []) o o' (ap length x ∙ slot-long z c a b (omega arith) (s .room .long) ∙ sym e)
-      (w ∙ ap (λ (k : ℕ). take k (drop (a * k) b)) e ∙ sym x)
+      let x : getD (take n (turn t S)) i [] ≡ take z (drop (a * z) b) = placed i a f v ∙ slot-at z c a b (omega arith) in
+      w ∙ ap (λ (k : ℕ). take k (drop (a * k) b)) e ∙ sym x
+      ∙ sym (whole (getD (take n (turn t S)) i []) o (ap length x ∙ slot-long z c a b (omega arith) (s .room .long) ∙ sym e))
