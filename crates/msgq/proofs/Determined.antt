@@ -20,7 +20,7 @@ use Rattle.msgq.specs.Post.{messages, new, may, putDecision, getDecision
 use Rattle.msgq.specs.Determined.{Determined}
 use Rattle.msgq.proofs.Slots.{length-slots}
 use Rattle.msgq.proofs.Headers.{from-sound}
-use Rattle.msgq.proofs.Looks.{hold}
+use Rattle.msgq.proofs.Answers.{hold}
 
 -- the slots are the buffer's first bytes
 slots-only : (size n : ℕ) (b b' : List ℕ) → slots size n b ≡ slots size n b' → take (n * size) b ≡ take (n * size) b'

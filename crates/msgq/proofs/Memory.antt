@@ -16,7 +16,7 @@ use Rattle.msgq.specs.History.{Good}
 use Rattle.msgq.specs.Upstream.{Inv, InvOf, Housed, InSlot}
 use Rattle.msgq.proofs.Slots.{all-slots}
 use Rattle.msgq.proofs.Headers.{is-sound, from-sound}
-use Rattle.msgq.proofs.Looks.{hold, spare, slot-below, zero-behind, placed}
+use Rattle.msgq.proofs.Answers.{hold, spare, slot-below, zero-behind, placed}
 use Rattle.msgq.proofs.Goods.{all-append}
 use Rattle.msgq.proofs.Implied.{good-inv}
 

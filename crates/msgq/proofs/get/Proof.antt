@@ -1,8 +1,7 @@
 -- One law for each answer. Assumes nothing.
 use native.Mathlib.Omega.{arith}
 use lib.ListN.{length, length-set}
-use Rattle.msgq.proofs.Looks.{slot-fits}
-use Rattle.msgq.proofs.Answers.{fills-size, get-empty, get-done}
+use Rattle.msgq.proofs.Answers.{slot-fits, fills-size, get-empty, get-done}
 use Rattle.msgq.proofs.Headers.{was-false, taken}
 use borrow.Author.Needs.{needs}
 use Rattle.msgq.proofs.get.Statement.{statement}
