@@ -1,18 +1,16 @@
 -- The decide functions agree with the queue. Assumes nothing.
 use mathlib.Core.Path.{_≡_, refl, sym, _∙_}
-use mathlib.Core.Bool.{Bool, true, false, cond}
+use mathlib.Core.Bool.{Bool, true, false}
 use mathlib.Core.List.{List, [], _∷_}
-use Prim.Native.Nat.{ℕ, _+_, _≤_}
+use Prim.Native.Nat.{ℕ, _≤_}
 use native.Mathlib.Omega.{arith}
 use native.Mathlib.Numerals.{add-one}
 use borrow.Author.Tests.{ltb-true, eq-eqb}
 use lib.Dec.{ltb}
-use lib.ListN.{length, length-append, length-drop}
-use Rattle.thread.specs.Code.{ok, enomsg}
-use Rattle.store.specs.Store.{accept, refuse, answer, carry}
-use Rattle.ring_buf.specs.Ring.{wrap}
+use lib.ListN.{length, getD, length-append, length-drop}
+use Rattle.store.specs.Store.{Reply, accept, refuse, answer, carry, handing}
 use Rattle.ring_buf.specs.Bytes.{numbers}
-use Rattle.msgq.specs.Msgq.{Msgq, max, used, readIdx, writeIdx, put, putFront, get, peek}
+use Rattle.msgq.specs.Msgq.{Msgq, max, used, readIdx, writeIdx, peeks, put, putFront, get, peek}
 use Rattle.msgq.specs.Post.{putDecision, getDecision, putFrontDecision, peekDecision}
 use Rattle.msgq.specs.History.{Good}
 use Rattle.msgq.specs.Agreement.{By, Agrees}
@@ -58,11 +56,11 @@ module _ (c z : ℕ) (q : Msgq) (g : Good c z q) where
       go false u = rw (read-within, eq-eqb (q .size) (q .size) refl, u) (record { code = refl; idx = refl; used = refl })
 
   peek-agrees : (i : ℕ) → answer (peek (q .size) i q) ≡ answer (peekDecision (readIdx q) (used q) (max q) i)
-  peek-agrees i = rw (read-within, eq-eqb (q .size) (q .size) refl) (go (ltb i (used q)))
+  peek-agrees i = rw (read-within, eq-eqb (q .size) (q .size) refl) (go (peeks (readIdx q) (used q) (max q) i))
     where
-      go : (b : Bool) → answer (carry (λ (x : ℕ). q) (cond b (accept (wrap (readIdx q + i) (max q)) ok) (refuse enomsg))) ≡ answer (cond b (accept (wrap (readIdx q + i) (max q)) ok) (refuse enomsg))
-      go true = refl
-      go false = refl
+      go : (y : Reply ℕ) → answer (handing (getD (q .ring .held) i []) (carry (λ (x : ℕ). q) y)) ≡ answer y
+      go (refuse a) = refl
+      go (accept n a o) = refl
 
   pub agrees : Agrees q
   agrees = record { put = put-agrees; putFront = front-agrees; get = get-agrees; peek = peek-agrees }

@@ -4,7 +4,7 @@ use mathlib.Core.List.{List, [], _∷_}
 use Prim.Native.Nat.{ℕ, suc, _+_, _-_, _≤_, _<_}
 use native.Mathlib.Omega.{arith}
 use borrow.Author.Tests.{lt-ltb, le-ltb, eq-eqb}
-use lib.ListN.{length, length-append, length-drop}
+use lib.ListN.{length, getD, length-append, length-drop}
 use Rattle.thread.specs.Code.{ok, enomsg}
 use Rattle.store.specs.Store.{Reply, accept, refuse, left}
 use Rattle.ring_buf.specs.Ring.{wrap, append, lead, leave}
@@ -15,13 +15,13 @@ use Rattle.msgq.specs.HandOver.{stored, read}
 
 module _ (c z : ℕ) (q : Msgq) (g : Good c z q) where
   module _ (m : List ℕ) (e : length m ≡ z) where
-    pub put-yes : used q < c → put m q ≡ accept (having (append (m ∷ []) (q .ring)) q) ok
+    pub put-yes : used q < c → put m q ≡ accept (having (append (m ∷ []) (q .ring)) q) ok []
     put-yes f = rw (eq-eqb (length m) (q .size) (e ∙ sym (g .size)), lt-ltb (used q) (max q) (omega (arith, g .max)))
 
     pub put-no : used q ≡ c → put m q ≡ refuse enomsg
     put-no f = rw (eq-eqb (length m) (q .size) (e ∙ sym (g .size)), le-ltb (used q) (max q) (omega (arith, g .max)))
 
-    pub front-yes : used q < c → putFront m q ≡ accept (having (lead m (q .ring)) q) ok
+    pub front-yes : used q < c → putFront m q ≡ accept (having (lead m (q .ring)) q) ok []
     front-yes f = rw (eq-eqb (length m) (q .size) (e ∙ sym (g .size)), lt-ltb (used q) (max q) (omega (arith, g .max)))
 
     pub front-no : used q ≡ c → putFront m q ≡ refuse enomsg
@@ -50,7 +50,7 @@ module _ (c z : ℕ) (q : Msgq) (g : Good c z q) where
         (λ x. let t : readIdx q + (max q - 1) - max q + suc (used q) ≡ readIdx q + used q = omega (arith, g .read, g .max) in
         ap (λ (n : ℕ). wrap (n + suc (used q)) (max q)) (wrap-high (readIdx q + (max q - 1)) (max q) (omega (arith, g .read, g .max))) ∙ ap (λ (n : ℕ). wrap n (max q)) t)
 
-  pub get-yes : 0 < used q → get (q .size) q ≡ accept (having (leave 1 (q .ring)) q) ok
+  pub get-yes : 0 < used q → get (q .size) q ≡ accept (having (leave 1 (q .ring)) q) ok (getD (q .ring .held) 0 [])
   get-yes f = rw (eq-eqb (q .size) (q .size) refl, lt-ltb 0 (used q) f)
 
   pub get-no : used q ≡ 0 → get (q .size) q ≡ refuse enomsg

@@ -1,6 +1,7 @@
 -- The functions on plain numbers imply upstream's clauses. Assumes nothing.
 use mathlib.Core.Path.{_≡_, refl, sym, ap, _∙_}
-use mathlib.Core.Bool.{Bool, true, false}
+use mathlib.Core.Bool.{Bool, true}
+use mathlib.Core.List.{[]}
 use Prim.Native.Nat.{ℕ, _+_, _-_, _≤_, _<_}
 use native.Mathlib.Omega.{arith}
 use lib.IntN.{ℤ}
@@ -18,7 +19,7 @@ use Rattle.msgq.proofs.Implied.{next-is, prev-is}
 
 -- a decision that is told
 module _ {y : Reply Numbers} {i u : ℕ} {r : ℤ} {i' u' : ℕ} (d : Settled y i u r i' u') where
-  told : {a n : ℕ} {c : ℤ} → y ≡ accept (counts a n) c → (r ≡ c) × ((i' ≡ a) × (u' ≡ n))
+  told : {a n : ℕ} {c : ℤ} → y ≡ accept (counts a n) c [] → (r ≡ c) × ((i' ≡ a) × (u' ≡ n))
   told e = (
     d .code ∙ ap answer e,
     (d .idx ∙ ap (λ (x : Reply Numbers). settled (λ (v : Numbers). v .idx) x i) e, d .used ∙ ap (λ (x : Reply Numbers). settled (λ (v : Numbers). v .used) x u) e),

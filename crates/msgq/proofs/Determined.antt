@@ -6,21 +6,21 @@ use native.Mathlib.Nat.{suc-mul, zero-mul}
 use native.Mathlib.Omega.{arith}
 use lib.IntN.{ℤ}
 use lib.ListN.{length, take, drop, getD}
-use lib.Seq.{take-add, length-take-le}
+use lib.Seq.{take-add}
 use Rattle.seq.specs.Only.{Only}
-use Rattle.seq.proofs.Only.{said, two, back-alike}
+use Rattle.seq.proofs.Only.{said, back-alike}
 use Rattle.store.specs.Store.{Reply}
 use Rattle.store.specs.Determined.{Faithful}
-use Rattle.store.proofs.Determined.{did-only, reads-only, hands-only, starts-only, decided-only}
-use Rattle.ring_buf.specs.Ring.{turn, ring}
-use Rattle.ring_buf.proofs.Rings.{length-turn}
+use Rattle.store.proofs.Determined.{did-only, reads-only, fills-only, starts-only, decided-only}
+use Rattle.ring_buf.specs.Ring.{ring}
 use Rattle.ring_buf.proofs.Determined.{ring-only}
 use Rattle.msgq.specs.Messages.{slots}
-use Rattle.msgq.specs.Msgq.{Msgq, Numbers, put, putFront, get, purge}
-use Rattle.msgq.specs.Post.{held, messages, new, may, putDecision, getDecision, putFrontDecision, peekDecision, Settled}
+use Rattle.msgq.specs.Msgq.{Msgq, Numbers, put, putFront, get, peek, purge}
+use Rattle.msgq.specs.Post.{messages, new, may, putDecision, getDecision, putFrontDecision, peekDecision, Settled}
 use Rattle.msgq.specs.Determined.{Determined}
 use Rattle.msgq.proofs.Slots.{length-slots}
-use Rattle.msgq.proofs.Headers.{Sound, from-sound}
+use Rattle.msgq.proofs.Headers.{from-sound}
+use Rattle.msgq.proofs.Answers.{hold}
 
 -- the slots are the buffer's first bytes
 slots-only : (size n : ℕ) (b b' : List ℕ) → slots size n b ≡ slots size n b' → take (n * size) b ≡ take (n * size) b'
@@ -34,13 +34,6 @@ slots-only size (suc n) b b' e =
     let q : take (size + n * size) b ≡ take (size + n * size) b' = take-add size (n * size) b ∙ (λ i. x i ++ k i) ∙ sym (take-add size (n * size) b') in
     rw z q
 
--- the word that has the number of messages
-used : (h b : List ℕ) → Sound h b → length (held h b .ring .held) ≡ getD h 2 0
-used h b s =
-    let l = length-slots (getD h 3 0) (getD h 0 0) b in
-    let t = length-turn (getD h 1 0) (slots (getD h 3 0) (getD h 0 0) b) (omega (arith, s .within .idx)) in
-    length-take-le (getD h 2 0) (turn (getD h 1 0) (slots (getD h 3 0) (getD h 0 0) b)) (omega (arith, s .within .used))
-
 buffer : (size c t n : ℕ) (b b' : List ℕ) → t < c → ring c t n (slots size c b) ≡ ring c t n (slots size c b') → take (c * size) b ≡ take (c * size) b'
 buffer size c t n b b' k e =
     let l = length-slots size c b in
@@ -50,7 +43,7 @@ faithful : Faithful messages
 faithful =
     record {
       header = λ h b h' b' f f' e.
-          let n = sym (used h b (from-sound h b f)) ∙ ap (λ (q : Msgq). length (q .ring .held)) e ∙ used h' b' (from-sound h' b' f') in
+          let n = sym (hold h b (from-sound h b f)) ∙ ap (λ (q : Msgq). length (q .ring .held)) e ∙ hold h' b' (from-sound h' b' f') in
           back-alike 4 h h' (λ i. e i .size ∷ n i ∷ e i .ring .start ∷ e i .ring .capacity ∷ []);
       buffer = λ h b b' f f' e.
           let k = from-sound h b f .within .idx in buffer (getD h 3 0) (getD h 0 0) (getD h 1 0) (getD h 2 0) b b' k (λ i. e i .ring);
@@ -73,8 +66,8 @@ determined =
       init = λ size n h b. starts-only faithful h b (may size n b) (new size n b);
       put = λ m h b. did-only faithful h b (put m);
       put-front = λ m h b. did-only faithful h b (putFront m);
-      get = λ h b out. hands-only faithful h b (get (length out)) _ (said _);
-      peek-at = λ i h b out. two _ _ (said _) (said _);
+      get = λ h b out. fills-only faithful h b (get (length out)) out;
+      peek-at = λ i h b out p q m n. let k = fills-only faithful h b (peek (length out) i) out (p .0, h, p .1) (q .0, h, q .1) m n in λ j. (k j .0, k j .2);
       purge = λ h b. reads-only faithful h b purge;
       num-free-get = λ h b. said _;
       num-used-get = λ h b. said _;

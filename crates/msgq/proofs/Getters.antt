@@ -4,15 +4,16 @@ use mathlib.Core.Bool.{Bool, true, false}
 use mathlib.Core.List.{List, [], _∷_}
 use Prim.Native.Nat.{ℕ, _+_, _<_}
 use native.Mathlib.Omega.{arith}
-use borrow.Author.Tests.{ltb-true, ltb-false, eq-eqb}
+use borrow.Author.Tests.{lt-ltb, ltb-true, ltb-false, eq-eqb}
 use lib.Dec.{ltb}
 use lib.ListN.{length, drop, getD, length-append, length-drop}
 use Rattle.seq.specs.List.{any}
 use Rattle.seq.proofs.Order.{clash}
+use Rattle.store.specs.Store.{out}
 use Rattle.ring_buf.specs.Ring.{wrap, append, leave}
-use Rattle.msgq.specs.Msgq.{Msgq, having, max, used, readIdx}
+use Rattle.msgq.specs.Msgq.{Msgq, having, max, used, readIdx, get}
 use Rattle.msgq.specs.Post.{sane, getDecision}
-use Rattle.msgq.specs.History.{getting, gives}
+use Rattle.msgq.specs.History.{getting}
 use Rattle.msgq.specs.HandOver.{Waited, decision, stored, read, Fair}
 use Rattle.msgq.proofs.Decisions.{get-refuses, get-pends, get-wakes, get-reads}
 use Rattle.msgq.proofs.Calls.{stores, reads}
@@ -32,8 +33,8 @@ module _ (c z : ℕ) (q : Msgq) (r : ℕ) (got line turned : List (List ℕ)) (n
   first = getD (q .ring .held) 0 []
 
   -- what is handed out
-  gave : q .size ≡ z → gives (getting n) q ≡ first
-  gave f = rw (eq-eqb n (q .size) (e ∙ sym f))
+  gave : q .size ≡ z → 0 < used q → out (get n q) ≡ first
+  gave f u = rw (eq-eqb n (q .size) (e ∙ sym f), lt-ltb 0 (used q) u)
 
   abbrev s : List (List ℕ) → Waited
   s w = waited q r w got line turned
@@ -53,7 +54,7 @@ module _ (c z : ℕ) (q : Msgq) (r : ℕ) (got line turned : List (List ℕ)) (n
           let f = ltb-true 0 (used q) y in
           carried c z (s []) p (getting n) k
           (d ∙ get-reads (readIdx q) (used q) (max q) false k right (wrap (readIdx q + 1) (max q)) (λ v. absurd (omega arith)) refl refl)
-          (rw (reads c z q (p .good) f, gave (p .good .size))
+          (rw (reads c z q (p .good) f, gave (p .good .size) f)
           (record {
             good = good-leave c z q (p .good) 1 f;
             sizes = tt;
@@ -86,7 +87,7 @@ module _ (c z : ℕ) (q : Msgq) (r : ℕ) (got line turned : List (List ℕ)) (n
       carried c z (s (m ∷ w)) p (getting n) k
       (d
       ∙ get-wakes (readIdx q) (used q) (max q) true k (get-sane c z q (p .good) true (λ y. o)) (wrap (readIdx q + 1) (max q)) (λ v. absurd (omega arith)) refl refl)
-      (rw (x, gave (p .good .size))
+      (rw (x, gave (p .good .size) f)
       (record {
         good = good-put c z (having (leave 1 (q .ring)) q) g m b (p .sizes .0);
         sizes = p .sizes .1;

@@ -9,11 +9,12 @@ use lib.ListN.{length, take, drop, getD, length-append, length-drop}
 use lib.Seq.{append-snoc, take-append-seam, drop-append-seam, drop-length}
 use Rattle.seq.specs.List.{All}
 use Rattle.store.specs.Store.{Reply, accept, answer, left}
+use Rattle.store.specs.History.{after}
 use Rattle.ring_buf.specs.Ring.{wrap, append, lead, leave}
 use Rattle.msgq.specs.Msgq.{Msgq, counts, having, max, used, readIdx, writeIdx, wakesWriter}
 use Rattle.msgq.specs.Post.{new}
 use Rattle.msgq.specs.History.{Call, putting, puttingFront, getting, peeking, purging, Good}
-use Rattle.msgq.specs.HandOver.{Waited, Event, decision, stored, led, read, happens, ends, Fair, Purged, HandsOver, Refills, Refused, OnlyEmpty}
+use Rattle.msgq.specs.HandOver.{Waited, Event, decision, stored, led, read, happens, Fair, Purged, HandsOver, Refills, Refused, OnlyEmpty}
 use Rattle.msgq.proofs.Decisions.{put-wakes, get-wakes}
 use Rattle.msgq.proofs.Calls.{stores, front-yes, reads}
 use Rattle.msgq.proofs.Goods.{good-put, good-front, good-leave}
@@ -31,12 +32,12 @@ keeps c z s p (getting n) b =
 keeps c z s p (peeking n i) b = peek-fair c z s p n i (answer (decision (peeking n i) b s))
 keeps c z s p purging b = purge-fair c z s p b
 
-pub fair : (c z : ℕ) (s : Waited) (es : List Event) → Fair c z s → Fair c z (ends s es)
+pub fair : (c z : ℕ) (s : Waited) (es : List Event) → Fair c z s → Fair c z (after happens s es)
 fair c z s [] p = p
-fair c z s (e ∷ es) p = fair c z (happens s e) es (keeps c z s p (e .call) (e .noWait))
+fair c z s (e ∷ es) p = keeps c z (after happens s es) (fair c z s es p) (e .call) (e .noWait)
 
 -- any calls on a new queue of c messages of z bytes, for which nobody waits
-pub always-fair : (c z : ℕ) (b : List ℕ) (es : List Event) → 0 < c → Fair c z (ends (waited (new z c b) 0 [] [] [] []) es)
+pub always-fair : (c z : ℕ) (b : List ℕ) (es : List Event) → 0 < c → Fair c z (after happens (waited (new z c b) 0 [] [] [] []) es)
 always-fair c z b es f =
     fair c z (waited (new z c b) 0 [] [] [] []) es
     (record { good = new-good c z b f; sizes = tt; no-message = λ v. refl; no-room = λ v. absurd (omega arith); line = refl })
@@ -81,7 +82,7 @@ module _ (c z : ℕ) (q : Msgq) (g : Good c z q) where
       let y : stored w (read q) ≡ having (append (w ∷ []) (leave 1 (q .ring))) q = ap (stored w) x ∙ stores c z (having (leave 1 (q .ring)) q) l w e d in
       record {
         decided = λ k. get-wakes (readIdx q) (used q) (max q) true k (get-sane c z q g true (λ v. n)) (wrap (readIdx q + 1) (max q)) (λ v. absurd (omega arith)) refl refl
-            ∙ (λ i. accept (counts (readIdx (sym x i)) ((sym (length-drop 1 (q .ring .held)) ∙ ap used (sym x)) i)) wakesWriter);
+            ∙ (λ i. accept (counts (readIdx (sym x i)) ((sym (length-drop 1 (q .ring .held)) ∙ ap used (sym x)) i)) wakesWriter []);
         behind = ap (λ (t : Msgq). t .ring .held) y;
         full = ap used y ∙ length-append (drop 1 (q .ring .held)) (w ∷ []) ∙ omega (arith, length-drop 1 (q .ring .held), g .max);
       }

@@ -18,7 +18,7 @@ use Rattle.ring_buf.proofs.Rings.{wrap-below, length-turn}
 use Rattle.msgq.specs.Messages.{slots}
 use Rattle.msgq.specs.Msgq.{Msgq}
 use Rattle.msgq.specs.Post.{Starts, room, messages, new}
-use Rattle.msgq.specs.History.{Call, putting, puttingFront, getting, peeking, purging, does, gives, line, sent, simple, Good, Promise}
+use Rattle.msgq.specs.History.{Call, putting, puttingFront, getting, peeking, purging, does, line, sent, simple, Good, Promise}
 use Rattle.msgq.proofs.Slots.{length-slots}
 use Rattle.msgq.proofs.Steps.{Holds, step, holds-next, refused-stays}
 
@@ -50,18 +50,18 @@ all-sent [] a = refl
 all-sent (s ∷ ss) a = sent-by (s .call) (s .answer) (s .out) ss (a .0) (all-sent ss (a .1))
 
 module _ (c z : ℕ) (b : List ℕ) (f : 0 < c) where
-  holds : {ss : List (Step Call)} {q : Msgq} → Ran does gives (new z c b) ss q → Holds c z ss q
+  holds : {ss : List (Step Call)} {q : Msgq} → Ran does (new z c b) ss q → Holds c z ss q
   holds fresh = record { good = new-good c z b f; order = refl }
   holds (ran {ss} {s = q} {k} o o' x w) = holds-next c z ss q (holds x) k o o' w
 
-  pub promised : {ss : List (Step Call)} {q : Msgq} → Ran does gives (new z c b) ss q → Promise c z ss q
+  pub promised : {ss : List (Step Call)} {q : Msgq} → Ran does (new z c b) ss q → Promise c z ss q
   promised {ss} {q} x =
       let h = holds x in
       record { good = h .good; order = h .order; fifo = λ a. h .order ∙ all-sent ss a; refused = λ k n e. refused-stays q n k e }
 
 -- the same of a queue in memory, after an init that is answered 0
-pub from-init : (c z : ℕ) {h b h₀ : List ℕ} → Starts z c h b ok h₀ → {ss : List (Step Call)} {h' b' : List ℕ} → Made messages does gives h₀ b ss h' b'
+pub from-init : (c z : ℕ) {h b h₀ : List ℕ} → Starts z c h b ok h₀ → {ss : List (Step Call)} {h' b' : List ℕ} → Made messages does h₀ b ss h' b'
     → (messages .formed h' b' ≡ true) × Promise c z ss (messages .object h' b')
 from-init c z {b = b} s x =
-    let a = from-start messages does gives s x in
+    let a = from-start messages does s x in
     (a .0, promised c z b (ltb-true 0 c (both-true (ltb 0 c) (room z c b) (allowed s) .0)) (a .1))

@@ -4,18 +4,18 @@ use mathlib.Core.List.{List, [], _∷_, _++_, append-nil}
 use Prim.Native.Nat.{ℕ, zero, suc, _+_, _-_, _≤_, _<_}
 use native.Mathlib.Nat.{add-zero}
 use native.Mathlib.Omega.{arith}
-use borrow.Author.Tests.{eq-eqb}
 use lib.ListN.{length, drop, getD, length-append, length-drop}
 use lib.Seq.{append-snoc}
 use Rattle.seq.specs.List.{All}
+use Rattle.store.specs.Store.{out}
 use Rattle.ring_buf.specs.Ring.{wrap, append, leave}
 use Rattle.ring_buf.proofs.Rings.{wrap-low}
-use Rattle.msgq.specs.Msgq.{Msgq, having, max, used, readIdx, writeIdx, seen}
+use Rattle.msgq.specs.Msgq.{Msgq, having, max, used, readIdx, writeIdx, get}
 use Rattle.msgq.specs.Post.{new}
 use Rattle.msgq.specs.History.{Good}
 use Rattle.msgq.specs.HandOver.{stored, read}
 use Rattle.msgq.specs.Upstream.{Inductive, Roundtrip, filled, drained, drawn, FillDrain}
-use Rattle.msgq.proofs.Calls.{stores, reads, write-next, write-left}
+use Rattle.msgq.proofs.Calls.{stores, get-yes, reads, write-next, write-left}
 use Rattle.msgq.proofs.Goods.{good-put, good-leave}
 use Rattle.msgq.proofs.Histories.{promised, new-good}
 use Rattle.msgq.proofs.Implied.{next-is, good-inv}
@@ -69,7 +69,7 @@ module _ (c z : ℕ) where
       let l : read q .ring .held ≡ drop 1 (q .ring .held) = ap (λ (t : Msgq). t .ring .held) e in
       let v : used (read q) ≡ n = ap length l ∙ length-drop 1 (q .ring .held) ∙ omega arith in
       let x = drain n (read q) h v in
-      let y : seen (q .size) 0 q ≡ getD (q .ring .held) 0 [] = rw (eq-eqb (q .size) (q .size) refl) in
+      let y : out (get (q .size) q) ≡ getD (q .ring .held) 0 [] = ap out (get-yes c z q g (omega arith)) in
       (x .0, ((λ i. y i ∷ (x .1 .0 ∙ l) i) ∙ first-of (q .ring .held) (omega arith), x .1 .1))
 
 -- where nothing is held the two indices are one

@@ -1,7 +1,6 @@
 pub mod Slots
 pub mod Headers
 pub mod Places
-pub mod Looks
 pub mod Answers
 pub mod Decisions
 pub mod Calls

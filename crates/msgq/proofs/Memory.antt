@@ -1,22 +1,22 @@
 -- The queue in any memory that is as it should be. Assumes nothing.
-use mathlib.Core.Path.{_≡_, refl, sym, ap, subst, _∙_}
+use mathlib.Core.Path.{_≡_, refl, sym, subst}
 use mathlib.Core.Bool.{true}
 use mathlib.Core.List.{List, []}
 use Prim.Native.Nat.{ℕ, _+_, _<_}
 use native.Mathlib.Omega.{arith}
 use lib.ListN.{length, take, drop, getD}
-use lib.Seq.{getD-take}
 use Rattle.seq.specs.List.{All}
 use Rattle.seq.proofs.Sub.{sub-take, sub-drop, sub-holds}
 use Rattle.ring_buf.specs.Ring.{wrap, turn}
-use Rattle.ring_buf.proofs.Rings.{turned, wrap-low, wrap-below, held-long, spare-long}
+use Rattle.ring_buf.proofs.Rings.{turned, wrap-below}
 use Rattle.msgq.specs.Messages.{slots}
 use Rattle.msgq.specs.Msgq.{used}
 use Rattle.msgq.specs.Post.{sound, held}
 use Rattle.msgq.specs.History.{Good}
 use Rattle.msgq.specs.Upstream.{Inv, InvOf, Housed, InSlot}
-use Rattle.msgq.proofs.Slots.{length-slots, all-slots, turn-at}
+use Rattle.msgq.proofs.Slots.{all-slots}
 use Rattle.msgq.proofs.Headers.{is-sound, from-sound}
+use Rattle.msgq.proofs.Answers.{hold, spare, slot-below, zero-behind, placed}
 use Rattle.msgq.proofs.Goods.{all-append}
 use Rattle.msgq.proofs.Implied.{good-inv}
 
@@ -24,8 +24,8 @@ pub memory-good : (h b : List ℕ) → sound h b ≡ true → Good (getD h 0 0) 
 memory-good h b e =
     let s = from-sound h b e in
     let S = slots (getD h 3 0) (getD h 0 0) b in
-    let n = held-long (getD h 0 0) (getD h 1 0) (getD h 2 0) S (length-slots (getD h 3 0) (getD h 0 0) b) (s .within .idx) (s .within .used) in
-    let v = spare-long (getD h 0 0) (getD h 1 0) (getD h 2 0) S (length-slots (getD h 3 0) (getD h 0 0) b) (s .within .idx) (s .within .used) in
+    let n = hold h b s in
+    let v = spare h b s in
     let a = all-slots (getD h 3 0) (getD h 0 0) b (s .room .long) in
     let P : List ℕ → Type 0 = λ m. length m ≡ getD h 3 0 in
     record {
@@ -61,16 +61,10 @@ formed-inv h b e =
 pub slot-of : (h b : List ℕ) → sound h b ≡ true → (i : ℕ) → i < used (held h b) → InSlot (wrap (getD h 1 0 + i) (getD h 0 0)) (getD (held h b .ring .held) i []) (held h b) b
 slot-of h b e i f =
     let s = from-sound h b e in
-    let S = slots (getD h 3 0) (getD h 0 0) b in
-    let m = length-slots (getD h 3 0) (getD h 0 0) b in
-    let n = held-long (getD h 0 0) (getD h 1 0) (getD h 2 0) S m (s .within .idx) (s .within .used) in (
-      wrap-below (getD h 1 0 + i) (getD h 0 0) (omega (arith, s .within .idx, s .within .used)),
-      sym (getD-take (getD h 2 0) (turn (getD h 1 0) S) i [] (omega arith)
-          ∙ turn-at (getD h 1 0) i (wrap (getD h 1 0 + i) (getD h 0 0)) S [] (omega (arith, s .within .idx)) (omega (arith, s .within .used)) (ap (wrap (getD h 1 0 + i)) (sym m))),
-    )
+    let n = hold h b s in
+    let a = wrap (getD h 1 0 + i) (getD h 0 0) in
+    (slot-below h b s i a (omega (arith, s .within .used)) refl, sym (placed h b s i a (omega arith) refl))
 
 pub first-slot : (h b : List ℕ) → sound h b ≡ true → 0 < used (held h b) → InSlot (getD h 1 0) (getD (held h b .ring .held) 0 []) (held h b) b
 first-slot h b e f =
-    let y : getD h 1 0 + 0 ≡ getD h 1 0 = omega arith in
-    subst (λ (t : ℕ). InSlot t (getD (held h b .ring .held) 0 []) (held h b) b)
-    (ap (λ (x : ℕ). wrap x (getD h 0 0)) y ∙ wrap-low (getD h 1 0) (getD h 0 0) (from-sound h b e .within .idx)) (slot-of h b e 0 f)
+    subst (λ (t : ℕ). InSlot t (getD (held h b .ring .held) 0 []) (held h b) b) (sym (zero-behind h b (from-sound h b e))) (slot-of h b e 0 f)

@@ -33,7 +33,7 @@ module _ (h b : List ℕ) {r : ℤ} {h' b' : List ℕ} where
 -- a look with a place of another size: told -22, and the place stays
 module _ (h b o : List ℕ) (i : ℕ) (r : ℤ) (o' : List ℕ) (f : sound h b ≡ true) (e : length o ≡ getD h 3 0 → ⊥) (d : PeeksAt i h b o r o') where
   pub peek-refuses : r ≡ einval
-  peek-refuses = d .0 ∙ rw (f, ne-eqb (length o) (getD h 3 0) e)
+  peek-refuses = d .0 .code ∙ rw (f, ne-eqb (length o) (getD h 3 0) e)
 
   pub place-stays : o' ≡ o
   place-stays = d .1 ∙ rw (f, ne-eqb (length o) (getD h 3 0) e)

@@ -3,21 +3,16 @@ use mathlib.Core.Path.{_≡_, refl, sym, ap, _∙_}
 use mathlib.Core.List.{List, [], _∷_, _++_}
 use Prim.Native.Nat.{ℕ, zero, suc, _+_, _-_, _*_, _≤_, _<_}
 use native.Mathlib.Nat.{suc-mul, zero-mul, zero-add, mul-le-mul-right}
-use native.Mathlib.Numerals.{add-one}
 use native.Mathlib.Omega.{arith}
 use lib.ListN.{length, take, drop, getD, set, length-take, length-drop, length-append}
-use lib.Seq.{take-append-le, drop-append-le, take-take, drop-drop, take-all, take-at, drop-at, getD-take, getD-drop, take-length, set-split, append-snoc, paste}
+use lib.Seq.{take-append-le, drop-append-le, take-take, drop-drop, take-all, take-at, drop-at, getD-take, getD-drop, take-length, paste}
 use borrow.Rule.Slice.PartMut.{putMid}
 use Rattle.seq.specs.List.{All}
 use Rattle.store.specs.Store.{Filled}
 use Rattle.ring_buf.specs.Ring.{wrap, turn}
-use Rattle.ring_buf.proofs.Rings.{drop-take, turn-part, wrap-below}
+use Rattle.ring_buf.proofs.Rings.{set-paste, drop-take, turn-part, wrap-below}
 use Rattle.ring_buf.proofs.Parts.{exact, lent-back}
 use Rattle.msgq.specs.Messages.{slots}
-
--- one element written is a piece of one
-pub set-paste : {A : Type 0} (b : List A) (i : ℕ) (x : A) → i < length b → set b i x ≡ paste b i (x ∷ []) 1
-set-paste {A} b i x f = set-split b i x f ∙ sym (append-snoc (take i b) x (drop (suc i) b)) ∙ ap (λ (n : ℕ). take i b ++ (x ∷ []) ++ drop n b) (sym (add-one i))
 
 -- the element i of a ring
 pub turn-at : {A : Type 0} (t i a : ℕ) (b : List A) (d : A) → t < length b → i < length b → a ≡ wrap (t + i) (length b) → getD (turn t b) i d ≡ getD b a d

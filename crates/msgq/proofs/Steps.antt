@@ -2,19 +2,19 @@
 use mathlib.Core.Path.{_≡_, refl, sym, subst, _∙_}
 use mathlib.Core.Bool.{Bool, true, false, cond}
 use mathlib.Core.List.{List, [], _∷_, _++_, append-nil}
-use Prim.Native.Nat.{ℕ, _+_, _-_}
+use Prim.Native.Nat.{ℕ}
 use native.Mathlib.Omega.{arith}
 use borrow.Author.Tests.{ltb-true, eqb-true}
 use lib.Dec.{eqb, ltb}
 use lib.IntN.{ℤ, pos, negsuc}
 use lib.ListN.{length, take, drop, getD}
 use lib.Seq.{take-append-seam}
-use Rattle.thread.specs.Code.{ok, enomsg}
-use Rattle.store.specs.Store.{Reply, refuse, accept, answer, carry, Filled, left}
+use Rattle.thread.specs.Code.{enomsg}
+use Rattle.store.specs.Store.{Reply, refuse, accept, answer, left, out, Filled}
 use Rattle.store.specs.History.{Step}
-use Rattle.ring_buf.specs.Ring.{wrap, append, lead, leave}
-use Rattle.msgq.specs.Msgq.{Msgq, counts, having, max, used, readIdx, writeIdx, given}
-use Rattle.msgq.specs.History.{Call, putting, puttingFront, getting, peeking, purging, does, gives, gotBy, got, line, Good}
+use Rattle.ring_buf.specs.Ring.{append, lead, leave}
+use Rattle.msgq.specs.Msgq.{Msgq, having, max, used, given}
+use Rattle.msgq.specs.History.{Call, putting, puttingFront, getting, peeking, purging, does, gotBy, got, line, Good}
 use Rattle.msgq.proofs.Goods.{all-at, good-put, good-front, good-leave}
 use Rattle.msgq.proofs.Lines.{line-put, line-front, line-get, line-purge}
 
@@ -48,25 +48,34 @@ told (getting n) q = 0
 told (peeking n i) q = 0
 told purging q = used q
 
-carried : {N : Type 0} (t u : Bool) (n : N) (q : Msgq) → given t (carry (λ (x : N). q) (cond u (accept n ok) (refuse enomsg))) ≡ given t (cond u (accept q ok) (refuse enomsg))
-carried t true n q = refl
-carried t false n q = refl
+abbrev gives : Call → Msgq → List ℕ
+gives (putting m) q = []
+gives (puttingFront m) q = []
+gives (getting n) q = getD (q .ring .held) 0 []
+gives (peeking n i) q = getD (q .ring .held) i []
+gives purging q = []
 
-does-is : (k : Call) (q : Msgq) → does k q ≡ given (right k q) (cond (there k q) (accept (to k q) (pos (told k q))) (refuse enomsg))
-does-is (putting m) q = carried (right (putting m) q) (there (putting m) q) (counts (wrap (writeIdx q + 1) (max q)) (used q + 1)) (to (putting m) q)
-does-is (puttingFront m) q =
-    carried (right (puttingFront m) q) (there (puttingFront m) q) (counts (wrap (readIdx q + (max q - 1)) (max q)) (used q + 1)) (to (puttingFront m) q)
-does-is (getting n) q = carried (right (getting n) q) (there (getting n) q) (counts (wrap (readIdx q + 1) (max q)) (used q - 1)) (to (getting n) q)
-does-is (peeking n i) q = carried (right (peeking n i) q) (there (peeking n i) q) (wrap (readIdx q + i) (max q)) q
-does-is purging q = refl
+abbrev yes : Call → Msgq → Reply Msgq
+yes k q = accept (to k q) (pos (told k q)) (gives k q)
 
-by-tests : (R : Reply Msgq → Type 0) (k : Call) (q : Msgq) → ((n : ℕ) → R (refuse (negsuc n))) → (right k q ≡ true → there k q ≡ true → R (accept (to k q) (pos (told k q)))) → R (does k q)
-by-tests R k q x f = subst R (sym (does-is k q)) (go (right k q) (there k q) f)
+does-is : (k : Call) (q : Msgq) (t u : Bool) → right k q ≡ t → there k q ≡ u → does k q ≡ given t (cond u (yes k q) (refuse enomsg))
+does-is (putting m) q t true e f = rw (e, f)
+does-is (putting m) q t false e f = rw (e, f)
+does-is (puttingFront m) q t true e f = rw (e, f)
+does-is (puttingFront m) q t false e f = rw (e, f)
+does-is (getting n) q t true e f = rw (e, f)
+does-is (getting n) q t false e f = rw (e, f)
+does-is (peeking n i) q t true e f = rw (e, f)
+does-is (peeking n i) q t false e f = rw (e, f)
+does-is purging q t u e f = (λ i. given (e i) (cond (f i) (yes purging q) (refuse enomsg)))
+
+by-tests : (R : Reply Msgq → Type 0) (k : Call) (q : Msgq) → ((n : ℕ) → R (refuse (negsuc n))) → (right k q ≡ true → there k q ≡ true → R (yes k q)) → R (does k q)
+by-tests R k q x f = go (right k q) (there k q) refl refl
   where
-    go : (t u : Bool) → (t ≡ true → u ≡ true → R (accept (to k q) (pos (told k q)))) → R (given t (cond u (accept (to k q) (pos (told k q))) (refuse enomsg)))
-    go true true f = f refl refl
-    go true false f = x 34
-    go false u f = x 21
+    go : (t u : Bool) → right k q ≡ t → there k q ≡ u → R (does k q)
+    go true true e g = subst R (sym (does-is k q true true e g)) (f e g)
+    go true false e g = subst R (sym (does-is k q true false e g)) (x 34)
+    go false u e g = subst R (sym (does-is k q false u e g)) (x 21)
 
 pub refused-stays : (q : Msgq) (n : ℕ) (k : Call) → answer (does k q) ≡ negsuc n → left (does k q) q ≡ q
 refused-stays q n k =
@@ -110,8 +119,7 @@ module _ (c z : ℕ) (ss : List (Step Call)) (q : Msgq) (p : Holds c z ss q) whe
       let f = ltb-true 0 (used q) u in
       let x = getD (q .ring .held) 0 [] in
       let l : length x ≡ n = all-at (λ (m : List ℕ). length m ≡ z) (q .ring .held) 0 [] (p .good .messages) f ∙ sym (eqb-true n (q .size) t ∙ p .good .size) in
-      let v : Filled x o o' = rw t at w in
-      record { good = good-leave c z q (p .good) 1 f; order = rw (came x o o' n l v) (line-get (got ss) (q .ring .held) (line ss) f (p .order)) }
+      record { good = good-leave c z q (p .good) 1 f; order = rw (came x o o' n l w) (line-get (got ss) (q .ring .held) (line ss) f (p .order)) }
   done (peeking n i) o o' w t u = record { good = p .good; order = rw (append-nil (got ss)) (p .order) }
   done purging o o' w t u =
       record {
@@ -119,8 +127,8 @@ module _ (c z : ℕ) (ss : List (Step Call)) (q : Msgq) (p : Holds c z ss q) whe
         order = rw (append-nil (got ss)) (line-purge (got ss) (q .ring .held) (line ss) (p .order));
       }
 
-  pub holds-next : (k : Call) (o o' : List ℕ) → Filled (gives k q) o o' → Holds c z (step k (answer (does k q)) o' ∷ ss) (left (does k q) q)
-  holds-next k o o' w =
-      by-tests (λ (y : Reply Msgq). Holds c z (step k (answer y) o' ∷ ss) (left y q)) k q
-      (λ n. record { good = p .good; order = rw (none-got k n o', append-nil (got ss)) (p .order) })
-      (done k o o' w)
+  pub holds-next : (k : Call) (o o' : List ℕ) → Filled (out (does k q)) o o' → Holds c z (step k (answer (does k q)) o' ∷ ss) (left (does k q) q)
+  holds-next k o o' =
+      by-tests (λ (y : Reply Msgq). Filled (out y) o o' → Holds c z (step k (answer y) o' ∷ ss) (left y q)) k q
+      (λ n w. record { good = p .good; order = rw (none-got k n o', append-nil (got ss)) (p .order) })
+      (λ t u w. done k o o' w t u)

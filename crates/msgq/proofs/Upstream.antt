@@ -1,18 +1,19 @@
 -- Our contracts imply those of Gale's msgq.rs: the calls that change the queue or hand out a message. Assumes nothing.
 use mathlib.Core.Path.{_≡_, sym, ap, subst, _∙_}
 use mathlib.Core.Bool.{true}
-use mathlib.Core.List.{List, [], _∷_, _++_, append-nil}
+use mathlib.Core.List.{List, [], _∷_}
 use Prim.Native.Nat.{ℕ, suc, _+_, _<_}
 use native.Mathlib.Omega.{arith}
-use borrow.Author.Tests.{eq-eqb}
+use borrow.Author.Tests.{lt-ltb, eq-eqb}
 use lib.IntN.{ℤ}
-use lib.ListN.{length, getD, length-append, drop-of-length-le}
+use lib.ListN.{length, getD, length-append}
 use lib.Seq.{getD-append-seam}
-use Rattle.store.specs.Store.{Reply, answer, Did, handed, Filled, left}
-use Rattle.store.proofs.Laws.{answers, looks-is}
+use Rattle.store.specs.Store.{Reply, answer, left, out, reply, Did, Filled}
+use Rattle.store.proofs.Laws.{answers, handed-is}
 use Rattle.store.proofs.Histories.{done}
 use Rattle.ring_buf.specs.Ring.{wrap, append, lead}
-use Rattle.msgq.specs.Msgq.{Msgq, having, max, used, readIdx, writeIdx, put, putFront, get, peek, seen, purge}
+use Rattle.ring_buf.proofs.Parts.{whole}
+use Rattle.msgq.specs.Msgq.{Msgq, having, max, used, readIdx, writeIdx, put, putFront, get, peek, purge}
 use Rattle.msgq.specs.Post.{Puts, PutsFront, Gets, PeeksAt, Purges, sound, held, messages}
 use Rattle.msgq.specs.History.{Good}
 use Rattle.msgq.specs.Upstream.{Inv, Housed, Put, PutFront, Get, InSlot, PeekAt, Purge}
@@ -20,10 +21,6 @@ use Rattle.msgq.proofs.Calls.{stores, front-yes}
 use Rattle.msgq.proofs.Goods.{all-at}
 use Rattle.msgq.proofs.Implied.{put-does, front-does, get-does, peek-does, purge-does}
 use Rattle.msgq.proofs.Memory.{memory-good, inv-formed, slot-of, first-slot}
-
--- a place that is filled whole
-whole : (l o o' : List ℕ) → length l ≡ length o → Filled l o o' → o' ≡ l
-whole l o o' e f = f ∙ ap (λ (x : List ℕ). l ++ x) (drop-of-length-le o {i = length l} (omega arith)) ∙ append-nil l
 
 module _ (h b : List ℕ) (w : ℕ) (k : Housed h b) (i : Inv (getD h 3 0) (getD h 0 0) (getD h 1 0) w (getD h 2 0)) where
   abbrev Q : Msgq
@@ -74,20 +71,22 @@ module _ (h b : List ℕ) (w : ℕ) (k : Housed h b) (i : Inv (getD h 3 0) (getD
         subst (λ (t : List ℕ). InSlot (getD h' 1 0) t (held h' b') b') y (first-slot h' b' (done messages (putFront m) h b right d .0) (omega arith))
 
   -- what is handed out is the message
-  handed-out : (n : ℕ) (o o' : List ℕ) → length o ≡ getD h 3 0 → n < used Q → Filled (handed messages (seen (length o) n) h b) o o' → o' ≡ getD (Q .ring .held) n []
-  handed-out n o o' e f d =
-      let m = getD (Q .ring .held) n [] in
-      let x : handed messages (seen (length o) n) h b ≡ m = rw (right, eq-eqb (length o) (getD h 3 0) e) in
-      whole m o o' (all-at (λ (t : List ℕ). length t ≡ getD h 3 0) (Q .ring .held) n [] (G .messages) f ∙ sym e) (subst (λ (t : List ℕ). Filled t o o') x d)
+  handed-out : (f : Msgq → Reply Msgq) (n : ℕ) (o o' : List ℕ) → length o ≡ getD h 3 0 → n < used Q → out (f Q) ≡ getD (Q .ring .held) n []
+      → Filled (out (reply messages f h b)) o o' → o' ≡ getD (Q .ring .held) n []
+  handed-out f n o o' e g x d =
+      subst (λ (t : List ℕ). Filled t o o') (handed-is messages f h b right ∙ x) d
+      ∙ whole (getD (Q .ring .held) n []) o (all-at (λ (t : List ℕ). length t ≡ getD h 3 0) (Q .ring .held) n [] (G .messages) g ∙ sym e)
 
   pub get-slot : (o : List ℕ) (r : ℤ) (h' o' : List ℕ) → length o ≡ getD h 3 0 → 0 < used Q → Gets h b o r h' o' → InSlot (readIdx Q) o' Q b
-  get-slot o r h' o' e f (_, d) = subst (λ (t : List ℕ). InSlot (readIdx Q) t Q b) (sym (handed-out 0 o o' e f d)) (first-slot h b right f)
+  get-slot o r h' o' e f (_, d) = subst (λ (t : List ℕ). InSlot (readIdx Q) t Q b) (sym (handed-out (get (length o)) 0 o o' e f (rw (eq-eqb (length o) (getD h 3 0) e, lt-ltb 0 (used Q) f)) d))
+      (first-slot h b right f)
 
   pub peek-slot : (n : ℕ) (o : List ℕ) (r : ℤ) (o' : List ℕ) → length o ≡ getD h 3 0 → n < used Q → PeeksAt n h b o r o'
       → InSlot (wrap (readIdx Q + n) (max Q)) o' Q b
-  peek-slot n o r o' e f (_, d) = subst (λ (t : List ℕ). InSlot (wrap (readIdx Q + n) (max Q)) t Q b) (sym (handed-out n o o' e f d)) (slot-of h b right n f)
+  peek-slot n o r o' e f (_, d) = subst (λ (t : List ℕ). InSlot (wrap (readIdx Q + n) (max Q)) t Q b) (sym (handed-out (peek (length o) n) n o o' e f (rw (eq-eqb (length o) (getD h 3 0) e, lt-ltb n (used Q) f)) d))
+      (slot-of h b right n f)
 
   pub msgq-peek-at : (n : ℕ) (o : List ℕ) (r : ℤ) (o' : List ℕ) → length o ≡ getD h 3 0 → PeeksAt n h b o r o' → PeekAt n Q r
   msgq-peek-at n o r o' e (d, _) =
-      subst (PeekAt n Q) (sym (d ∙ looks-is messages h b (λ (q : Msgq). answer (peek (length o) n q)) right ∙ ap (λ (x : ℕ). answer (peek x n Q)) e))
+      subst (PeekAt n Q) (sym (answers messages (peek (length o) n) h b d right ∙ ap (λ (x : ℕ). answer (peek x n Q)) e))
       (peek-does (getD h 0 0) (getD h 3 0) Q (i .some-bytes) G n)

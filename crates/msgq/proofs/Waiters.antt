@@ -47,7 +47,7 @@ module _ (c z : ℕ) (s : Waited) (p : Fair c z s) where
   After k b = Fair c z (told k (answer (decision k b s)) s)
 
   -- its decision is carried out
-  pub carried : (k : Call) (b : Bool) {n : Numbers} {a : ℕ} → decision k b s ≡ accept n (pos a) → Fair c z (done k a s) → After k b
+  pub carried : (k : Call) (b : Bool) {n : Numbers} {a : ℕ} → decision k b s ≡ accept n (pos a) [] → Fair c z (done k a s) → After k b
   carried k b d f = subst (λ (y : Reply Numbers). Fair c z (told k (answer y) s)) (sym d) f
 
   pub refused : (k : Call) (b : Bool) {a : ℕ} → decision k b s ≡ refuse (negsuc a) → After k b

@@ -9,10 +9,10 @@ use lib.IntN.{ℤ, pos, negsuc}
 use lib.ListN.{length, drop, getD}
 use Rattle.seq.specs.List.{any, All}
 use Rattle.thread.specs.Code.{einval}
-use Rattle.store.specs.Store.{Reply, accept, refuse, answer, left, carry}
+use Rattle.store.specs.Store.{Reply, accept, refuse, answer, left, out, carry}
 use Rattle.msgq.specs.Msgq.{Msgq, Numbers, counts, given, wakesReader, wakesWriter, max, used, readIdx, writeIdx, put, putFront, get, purge}
 use Rattle.msgq.specs.Post.{putDecision, getDecision, putFrontDecision, peekDecision}
-use Rattle.msgq.specs.History.{Call, putting, puttingFront, getting, peeking, purging, gives, lined, Good}
+use Rattle.msgq.specs.History.{Call, putting, puttingFront, getting, peeking, purging, lined, Good}
 
 pub record Waited : Type 0 where
   pub queue : Msgq
@@ -82,10 +82,10 @@ done (putting m) (suc (suc c)) s = becomes (putting m) s (s .queue) (s .readers)
 done (puttingFront m) zero s = becomes (puttingFront m) s (led m (s .queue)) (s .readers) (s .writers) []
 done (puttingFront m) (suc c) s = becomes (puttingFront m) s (s .queue) (s .readers - 1) (s .writers) (m ∷ [])
 -- read the first message
-done (getting n) zero s = becomes (getting n) s (read (s .queue)) (s .readers) (s .writers) (gives (getting n) (s .queue) ∷ [])
+done (getting n) zero s = becomes (getting n) s (read (s .queue)) (s .readers) (s .writers) (out (get n (s .queue)) ∷ [])
 -- read it, and then let the first writer put its own
 done (getting n) (suc zero) s =
-    becomes (getting n) s (refilled (s .writers) (read (s .queue))) (s .readers) (drop 1 (s .writers)) (gives (getting n) (s .queue) ∷ [])
+    becomes (getting n) s (refilled (s .writers) (read (s .queue))) (s .readers) (drop 1 (s .writers)) (out (get n (s .queue)) ∷ [])
 -- wait
 done (getting n) (suc (suc c)) s = becomes (getting n) s (s .queue) (suc (s .readers)) (s .writers) []
 -- look
@@ -109,11 +109,7 @@ told k (negsuc c) s = s
 abbrev pub happens : Waited → Event → Waited
 happens s e = told (e .call) (answer (decision (e .call) (e .noWait) s)) s
 
-abbrev pub ends : Waited → List Event → Waited
-ends s [] = s
-ends s (e ∷ es) = ends (happens s e) es
-
--- after any events
+-- after any events: `after happens`
 pub record Fair (c z : ℕ) (s : Waited) : Type 0 where
   pub good : Good c z (s .queue)
   pub sizes : All (λ (m : List ℕ). length m ≡ z) (s .writers)
@@ -137,7 +133,7 @@ pub record Purged (s s' : Waited) : Type 0 where
 
 -- of an empty queue: the message m goes to a reader, and no number moves; m put, and then got by the reader, leaves it empty as well
 pub record HandsOver (m : List ℕ) (q : Msgq) : Type 0 where
-  pub decided : (k : Bool) → putDecision (writeIdx q) (used q) (max q) true k ≡ accept (counts (writeIdx q) (used q)) wakesReader
+  pub decided : (k : Bool) → putDecision (writeIdx q) (used q) (max q) true k ≡ accept (counts (writeIdx q) (used q)) wakesReader []
   pub same : read (stored m q) .ring .held ≡ q .ring .held
   pub gets-it : getD (stored m q .ring .held) 0 [] ≡ m
   -- and so does m put at the front
@@ -146,7 +142,7 @@ pub record HandsOver (m : List ℕ) (q : Msgq) : Type 0 where
 
 -- of a full queue, where a writer waits with w: the numbers are those of the get alone; then w is put, and it is full again
 pub record Refills (w : List ℕ) (q : Msgq) : Type 0 where
-  pub decided : (k : Bool) → getDecision (readIdx q) (used q) (max q) true k ≡ accept (counts (readIdx (read q)) (used (read q))) wakesWriter
+  pub decided : (k : Bool) → getDecision (readIdx q) (used q) (max q) true k ≡ accept (counts (readIdx (read q)) (used (read q))) wakesWriter []
   pub behind : stored w (read q) .ring .held ≡ drop 1 (q .ring .held) ++ w ∷ []
   pub full : used (stored w (read q)) ≡ max q
 

@@ -9,7 +9,7 @@ use Rattle.seq.specs.List.{All}
 use Rattle.store.specs.Store.{Reply, answer, left}
 use Rattle.store.specs.History.{Step}
 use Rattle.ring_buf.specs.History.{accepted}
-use Rattle.msgq.specs.Msgq.{Msgq, max, used, readIdx, writeIdx, put, putFront, get, peek, seen, purge}
+use Rattle.msgq.specs.Msgq.{Msgq, max, used, readIdx, writeIdx, put, putFront, get, peek, purge}
 
 -- a get and a peek: to a place of n bytes
 pub data Call : Type 0 where
@@ -25,13 +25,6 @@ does (puttingFront m) q = putFront m q
 does (getting n) q = get n q
 does (peeking n i) q = peek n i q
 does purging q = purge q
-
-abbrev pub gives : Call → Msgq → List ℕ
-gives (putting m) q = []
-gives (puttingFront m) q = []
-gives (getting n) q = seen n 0 q
-gives (peeking n i) q = seen n i q
-gives purging q = []
 
 -- ---- from a call, its answer and its place for what is handed out
 

@@ -7,7 +7,7 @@ use lib.IntN.{ℤ, pos}
 use lib.ListN.{length, getD}
 use Rattle.seq.specs.List.{any}
 use Rattle.thread.specs.Code.{ok, einval, enomsg}
-use Rattle.store.specs.Store.{Reply, refuse, accept, carry}
+use Rattle.store.specs.Store.{Reply, refuse, accept, carry, handing}
 use Rattle.ring_buf.specs.Ring.{Ring, wrap, tail, append, lead, leave}
 
 pub record Msgq : Type 0 where
@@ -63,22 +63,22 @@ pends = pos 2
 abbrev pub puts : ℕ → ℕ → ℕ → (reader noWait : Bool) → Reply Numbers
 puts w n c reader noWait =
     cond (ltb n c)
-    (cond reader (accept (counts w n) wakesReader) (accept (counts (wrap (w + 1) c) (n + 1)) stored))
-    (cond noWait (refuse enomsg) (accept (counts w n) pends))
+    (cond reader (accept (counts w n) wakesReader []) (accept (counts (wrap (w + 1) c) (n + 1)) stored []))
+    (cond noWait (refuse enomsg) (accept (counts w n) pends []))
 
 -- with n messages of c, the first in the slot t
 abbrev pub gets : ℕ → ℕ → ℕ → (writer noWait : Bool) → Reply Numbers
 gets t n c writer noWait =
     cond (ltb 0 n)
-    (accept (counts (wrap (t + 1) c) (n - 1)) (cond writer wakesWriter isRead))
-    (cond noWait (refuse enomsg) (accept (counts t n) pends))
+    (accept (counts (wrap (t + 1) c) (n - 1)) (cond writer wakesWriter isRead) [])
+    (cond noWait (refuse enomsg) (accept (counts t n) pends []))
 
 abbrev pub leads : ℕ → ℕ → ℕ → Reply Numbers
-leads t n c = cond (ltb n c) (accept (counts (wrap (t + (c - 1)) c) (n + 1)) ok) (refuse enomsg)
+leads t n c = cond (ltb n c) (accept (counts (wrap (t + (c - 1)) c) (n + 1)) ok []) (refuse enomsg)
 
 -- the slot of the message i
 abbrev pub peeks : ℕ → ℕ → ℕ → ℕ → Reply ℕ
-peeks t n c i = cond (ltb i n) (accept (wrap (t + i) c) ok) (refuse enomsg)
+peeks t n c i = cond (ltb i n) (accept (wrap (t + i) c) ok []) (refuse enomsg)
 
 -- ---- what is done
 
@@ -97,23 +97,20 @@ putFront m q =
     given (eqb (length m) (q .size))
     (carry (λ (x : Numbers). having (lead m (q .ring)) q) (leads (readIdx q) (used q) (max q)))
 
--- the first message leaves, to a place of n bytes; a place of another size: -22; an empty queue: -35
+-- the first message leaves, and is handed out to a place of n bytes; a place of another size: -22; an empty queue: -35
 abbrev pub get : ℕ → Msgq → Reply Msgq
 get n q =
     given (eqb n (q .size))
-    (carry (λ (x : Numbers). having (leave 1 (q .ring)) q) (gets (readIdx q) (used q) (max q) false true))
+    (handing (getD (q .ring .held) 0 []) (carry (λ (x : Numbers). having (leave 1 (q .ring)) q) (gets (readIdx q) (used q) (max q) false true)))
 
--- nothing changes
+-- the message behind i others is handed out, and nothing changes
 abbrev pub peek : ℕ → ℕ → Msgq → Reply Msgq
-peek n i q = given (eqb n (q .size)) (carry (λ (x : ℕ). q) (peeks (readIdx q) (used q) (max q) i))
-
--- the bytes that are handed out to a place of n: the message i, or none
-abbrev pub seen : ℕ → ℕ → Msgq → List ℕ
-seen n i q = cond (eqb n (q .size)) (getD (q .ring .held) i []) []
+peek n i q =
+    given (eqb n (q .size)) (handing (getD (q .ring .held) i []) (carry (λ (x : ℕ). q) (peeks (readIdx q) (used q) (max q) i)))
 
 -- all messages leave; the answer is their number
 abbrev pub purge : Msgq → Reply Msgq
-purge q = accept (having (leave (used q) (q .ring)) q) (pos (used q))
+purge q = accept (having (leave (used q) (q .ring)) q) (pos (used q)) []
 
 -- ---- what is asked
 

@@ -7,11 +7,11 @@ use Prim.Native.Nat.{ℕ, _*_}
 use lib.Dec.{eqb, ltb, leb}
 use lib.IntN.{ℤ}
 use lib.ListN.{length, getD}
-use Rattle.store.specs.Store.{Reply, answer, settled, Decided, Place, Did, looks, handed, Filled, Fills, Started}
+use Rattle.store.specs.Store.{Reply, answer, settled, Decided, Place, Did, looks, Fills, Started}
 use Rattle.ring_buf.specs.Ring.{ring}
 use Rattle.ring_buf.specs.Bytes.{numbers}
 use Rattle.msgq.specs.Messages.{slots}
-use Rattle.msgq.specs.Msgq.{Msgq, Numbers, puts, gets, leads, peeks, given, put, putFront, get, peek, seen, purge, numFree, numUsed, msgSize, maxMsgs, readAt, writeAt, full, empty}
+use Rattle.msgq.specs.Msgq.{Msgq, Numbers, puts, gets, leads, peeks, given, put, putFront, get, peek, purge, numFree, numUsed, msgSize, maxMsgs, readAt, writeAt, full, empty}
 
 -- a message has a byte; n messages have no more than 2^32 - 1, and no more than the buffer
 abbrev pub room : ℕ → ℕ → List ℕ → Bool
@@ -98,12 +98,11 @@ PutsFront m h b r h' b' = Did messages (putFront m) h b r h' b'
 
 -- the first message comes out
 abbrev pub Gets : List ℕ → List ℕ → List ℕ → ℤ → List ℕ → List ℕ → Type 0
-Gets h b out r h' out' = Fills messages (get (length out)) (seen (length out) 0) h b out r h' out'
+Gets h b out r h' out' = Fills messages (get (length out)) h b out r h' out'
 
 -- the message behind i others is told
 abbrev pub PeeksAt : ℕ → List ℕ → List ℕ → List ℕ → ℤ → List ℕ → Type 0
-PeeksAt i h b out r out' =
-    (r ≡ looks messages (λ (q : Msgq). answer (peek (length out) i q)) h b) × Filled (handed messages (seen (length out) i) h b) out out'
+PeeksAt i h b out r out' = Fills messages (peek (length out) i) h b out r h out'
 
 -- no message is held
 abbrev pub Purges : List ℕ → List ℕ → ℤ → List ℕ → Type 0

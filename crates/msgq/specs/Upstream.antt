@@ -11,10 +11,11 @@ use lib.ListN.{length, drop, getD}
 use Rattle.thread.specs.Code.{ok, enomsg, einval}
 use Rattle.thread.specs.Upstream.{Tells}
 use Rattle.msgq.specs.Messages.{slots}
-use Rattle.msgq.specs.Msgq.{Msgq, max, used, readIdx, writeIdx, seen, stored, wakesReader, isRead, wakesWriter, pends}
+use Rattle.msgq.specs.Msgq.{Msgq, max, used, readIdx, writeIdx, get, stored, wakesReader, isRead, wakesWriter, pends}
 use Rattle.msgq.specs.Post.{new}
+use Rattle.store.specs.Store.{out}
 use Rattle.store.specs.History.{Step, Ran}
-use Rattle.msgq.specs.History.{Call, does, gives}
+use Rattle.msgq.specs.History.{Call, does}
 use Rattle.msgq.specs.HandOver as queue
 
 -- next_idx_spec, prev_idx_spec
@@ -251,7 +252,7 @@ pub record PeekAtDecide (t n c i x : ℕ) (r : ℤ) (x' : ℕ) : Type 0 where
 
 -- lemma_invariant_inductive: the invariant holds across all operations
 abbrev pub Inductive : ℕ → ℕ → List ℕ → Type 0
-Inductive size c b = (ss : List (Step Call)) (q : Msgq) → Ran does gives (new size c b) ss q → InvOf q
+Inductive size c b = (ss : List (Step Call)) (q : Msgq) → Ran does (new size c b) ss q → InvOf q
 
 -- lemma_put_get_roundtrip: put-then-get reads the OLDEST message; the net effect is used_msgs unchanged but read_idx advanced
 pub record Roundtrip (m : List ℕ) (q : Msgq) : Type 0 where
@@ -276,7 +277,7 @@ drained (suc n) q = drained n (queue.read q)
 
 abbrev pub drawn : ℕ → Msgq → List (List ℕ)
 drawn zero q = []
-drawn (suc n) q = seen (q .size) 0 q ∷ drawn n (queue.read q)
+drawn (suc n) q = out (get (q .size) q) ∷ drawn n (queue.read q)
 
 pub record FillDrain (size c : ℕ) (b : List ℕ) (ms : List (List ℕ)) : Type 0 where
   pub held : filled ms (new size c b) .ring .held ≡ ms

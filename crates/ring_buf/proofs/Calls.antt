@@ -9,11 +9,11 @@ use lib.Dec.{ltb, leb}
 use lib.IntN.{ℤ, negsuc}
 use lib.ListN.{length, take, drop, length-append, length-take, length-drop}
 use lib.Seq.{take-at, length-take-le}
-use Rattle.store.specs.Store.{answer, Filled, left}
+use Rattle.store.specs.Store.{answer, left, out, Filled}
 use Rattle.store.proofs.Laws.{both-true}
 use Rattle.ring_buf.specs.Ring.{Ring, append, leave, clear}
-use Rattle.ring_buf.specs.Bytes.{new, may, put, get, getMany, peek, gotten}
-use Rattle.ring_buf.specs.History.{Call, putting, getting, puttingMany, gettingMany, peeking, resetting, does, gives, putBy, gotBy, wipes}
+use Rattle.ring_buf.specs.Bytes.{new, may, put, get, getMany, peek}
+use Rattle.ring_buf.specs.History.{Call, putting, getting, puttingMany, gettingMany, peeking, resetting, does, putBy, gotBy, wipes}
 use Rattle.ring_buf.proofs.Rings.{wrap-below, length-turn}
 use Rattle.ring_buf.proofs.Parts.{take-least}
 
@@ -53,11 +53,12 @@ module _ (c t : ℕ) where
   put-acts l [] x o = stays refl refl refl
   put-acts l (y ∷ p) x o = adds (x ∷ []) (omega arith) refl refl refl
 
-  get-acts : (l p o o' : List ℕ) → Filled (gotten 1 (mk c t l p)) o o' → Acts (mk c t l p) getting (answer (get (mk c t l p))) o' (left (get (mk c t l p)) (mk c t l p))
+  get-acts : (l p o o' : List ℕ) → Filled (out (get (mk c t l p))) o o'
+      → Acts (mk c t l p) getting (answer (get (mk c t l p))) o' (left (get (mk c t l p)) (mk c t l p))
   get-acts [] p o o' f = stays refl refl refl
   get-acts (y ∷ l) p o o' f = takes 1 (omega arith) refl refl (ap (take 1) f)
 
-  get-n-acts : (n : ℕ) (l p o o' : List ℕ) → Filled (gotten n (mk c t l p)) o o'
+  get-n-acts : (n : ℕ) (l p o o' : List ℕ) → Filled (take n l) o o'
       → Acts (mk c t l p) (gettingMany n) (answer (getMany n (mk c t l p))) o' (leave (min n (length l)) (mk c t l p))
   get-n-acts n l p o o' f =
       let m = min n (length l) in
@@ -70,7 +71,7 @@ module _ (c t : ℕ) where
       go true e = rw e (stays refl refl refl)
       go false e = rw e (stays refl refl refl)
 
-  pub which : (l p : List ℕ) (k : Call) (o o' : List ℕ) → Filled (gives k (mk c t l p)) o o'
+  pub which : (l p : List ℕ) (k : Call) (o o' : List ℕ) → Filled (out (does k (mk c t l p))) o o'
       → Acts (mk c t l p) k (answer (does k (mk c t l p))) o' (left (does k (mk c t l p)) (mk c t l p))
   which l p (putting x) o o' f = put-acts l p x o'
   which l p getting o o' f = get-acts l p o o' f
@@ -96,6 +97,3 @@ module _ (c t : ℕ) where
   refused l p (gettingMany m) n e = absurd (let z : _≡_ {A = ℕ} 0 1 = cc in omega arith)
   refused l p (peeking i) n e = peeks i l p
   refused l p resetting n e = absurd (let z : _≡_ {A = ℕ} 0 1 = cc in omega arith)
-
-pub peeked : (i : ℕ) (r : Ring ℕ) → left (peek i r) r ≡ r
-peeked i r = peeks (r .capacity) (r .start) i (r .held) (r .spare)

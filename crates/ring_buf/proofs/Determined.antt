@@ -7,9 +7,9 @@ use lib.ListN.{length, take, getD, take-append-drop}
 use lib.Seq.{length-take-le}
 use Rattle.seq.proofs.Only.{said, two, back-alike}
 use Rattle.store.specs.Determined.{Faithful}
-use Rattle.store.proofs.Determined.{did-only, reads-only, hands-only, starts-only}
+use Rattle.store.proofs.Determined.{did-only, reads-only, fills-only, hands-only, starts-only}
 use Rattle.ring_buf.specs.Ring.{Ring, wrap, turn, ring}
-use Rattle.ring_buf.specs.Bytes.{bytes, new, may, put, get, putMany, getMany, reset}
+use Rattle.ring_buf.specs.Bytes.{bytes, new, may, put, get, putMany, getMany, peek, reset}
 use Rattle.ring_buf.specs.Determined.{Determined}
 use Rattle.ring_buf.proofs.Rings.{wrap-high, turned, turn-turn}
 use Rattle.ring_buf.proofs.Headers.{from-sound}
@@ -50,10 +50,10 @@ determined =
       formed = λ h b. said _;
       init = λ c h b. starts-only faithful h b (may c b) (new c b);
       put = λ x h b. did-only faithful h b (put x);
-      get = λ h b x. hands-only faithful h b get _ (said _);
+      get = λ h b x. hands-only faithful h b get x;
       put-n = λ src h b. did-only faithful h b (putMany src);
-      get-n = λ h b out. hands-only faithful h b (getMany (length out)) _ (said _);
-      peek-at = λ i h b x. two _ _ (said _) (said _);
+      get-n = λ h b out. fills-only faithful h b (getMany (length out)) out;
+      peek-at = λ i h b x p q m n. let k = hands-only faithful h b (peek i) x (p .0, h, p .1) (q .0, h, q .1) m n in λ j. (k j .0, k j .2);
       reset = λ h b. reads-only faithful h b reset;
       size-get = λ h b. said _;
       space-get = λ h b. said _;

@@ -7,12 +7,12 @@ use Prim.Native.Nat.{ℕ}
 use native.Mathlib.Omega.{arith}
 use lib.IntN.{pos}
 use Rattle.thread.specs.Code.{ok, eagain, einval}
-use Rattle.store.specs.Store.{answer, looks, handed}
+use Rattle.store.specs.Store.{answer, out, reply, looks}
 use Rattle.store.specs.History.{Step, Ran, fresh, ran, Made, begun, made}
 use Rattle.ring_buf.specs.Ring.{Ring, wrap, turn, ring, tail}
-use Rattle.ring_buf.specs.Bytes.{bytes, new, may, put, putMany, gotten, sizeOf, spaceOf, tailOf, empty, full}
+use Rattle.ring_buf.specs.Bytes.{bytes, new, may, put, get, putMany, sizeOf, spaceOf, tailOf, empty, full}
 use Rattle.ring_buf.specs.Counters.{low, offset, claimed, finishes, room, amount, Counted, Exact}
-use Rattle.ring_buf.specs.History.{Call, putting, getting, puttingMany, gettingMany, peeking, resetting, does, gives, got, line, puts, gets}
+use Rattle.ring_buf.specs.History.{Call, putting, getting, puttingMany, gettingMany, peeking, resetting, does, got, line, puts, gets}
 use Rattle.ring_buf.proofs.Answers as answers
 
 -- room for three in a buffer of four
@@ -40,7 +40,7 @@ run =
 abbrev then : Ring ℕ
 then = record { capacity = 3; start = 1; held = []; spare = 2 ∷ 3 ∷ 4 ∷ [] }
 
-pub run-is : Ran does gives (new 3 buffer) run then
+pub run-is : Ran does (new 3 buffer) run then
 unfolding wrap turn
 run-is =
     ran {k = gettingMany 5} (0 ∷ 0 ∷ 0 ∷ 0 ∷ 0 ∷ []) (2 ∷ 3 ∷ 4 ∷ 0 ∷ 0 ∷ [])
@@ -67,7 +67,7 @@ cut =
     ∷ record { call = puttingMany (1 ∷ 2 ∷ []); answer = pos 2; out = [] }
     ∷ []
 
-pub cut-is : Ran does gives (new 3 buffer) cut (record { capacity = 3; start = 0; held = 3 ∷ []; spare = 2 ∷ 9 ∷ [] })
+pub cut-is : Ran does (new 3 buffer) cut (record { capacity = 3; start = 0; held = 3 ∷ []; spare = 2 ∷ 9 ∷ [] })
 unfolding wrap turn
 cut-is =
     ran {k = putting 3} [] []
@@ -86,7 +86,7 @@ memory = 4 ∷ 5 ∷ 6 ∷ 9 ∷ []
 
 pub memory-is : (bytes .formed header memory ≡ true) × (bytes .object header memory .held ≡ 6 ∷ []) × (bytes .object header memory .spare ≡ 4 ∷ 5 ∷ [])
     × (looks bytes tailOf header memory ≡ pos 0) × (looks bytes spaceOf header memory ≡ pos 2) × (looks bytes empty header memory ≡ pos 0)
-    × (looks bytes full header memory ≡ pos 0) × (handed bytes (gotten 1) header memory ≡ 6 ∷ [])
+    × (looks bytes full header memory ≡ pos 0) × (out (reply bytes get header memory) ≡ 6 ∷ [])
 unfolding wrap turn
 memory-is = (refl, refl, refl, refl, refl, refl, refl, refl)
 
@@ -95,8 +95,8 @@ pub malformed-is : (looks bytes sizeOf (0 ∷ 0 ∷ 0 ∷ []) memory ≡ einval)
     × (looks bytes sizeOf (5 ∷ 0 ∷ 0 ∷ []) memory ≡ einval) × (looks bytes sizeOf (3 ∷ 0 ∷ []) memory ≡ einval)
 malformed-is = (refl, refl, refl, refl, refl)
 
-pub made-one : Made bytes does gives header memory (record { call = putting 1; answer = ok; out = [] } ∷ []) (3 ∷ 2 ∷ 2 ∷ []) (1 ∷ 5 ∷ 6 ∷ 9 ∷ [])
-unfolding wrap
+pub made-one : Made bytes does header memory (record { call = putting 1; answer = ok; out = [] } ∷ []) (3 ∷ 2 ∷ 2 ∷ []) (1 ∷ 5 ∷ 6 ∷ 9 ∷ [])
+unfolding wrap turn
 made-one =
     made {k = putting 1} [] [] begun
     (answers.put-done header memory (record { words = omega arith; start = omega arith; size = omega arith; room = omega arith }) 1 0 (omega arith) refl)

@@ -1,12 +1,11 @@
 -- A ring's header and buffer: what is tested, and what then holds. Assumes nothing.
-use mathlib.Core.Path.{_≡_, refl, sym, _∙_}
+use mathlib.Core.Path.{_≡_, sym, _∙_}
 use mathlib.Core.Bool.{Bool, true, false, not, cond}
-use mathlib.Core.List.{List, _∷_}
+use mathlib.Core.List.{List}
 use Prim.Native.Nat.{ℕ, _≤_, _<_}
 use borrow.Author.Tests.{lt-ltb, le-ltb, lt-leb, le-leb, leb-true, ltb-true, not-true, not-false}
 use lib.Dec.{ltb, leb}
 use lib.ListN.{length, getD}
-use Rattle.seq.proofs.Words.{by-words}
 use Rattle.store.proofs.Laws.{both-true}
 use Rattle.ring_buf.specs.Bytes.{sound}
 
@@ -51,19 +50,3 @@ module _ (h b : List ℕ) where
 
   pub failed : {r : Bool} → r ≡ sound h b → not r ≡ true → sound h b ≡ false
   failed {r} e f = sym e ∙ not-true r f
-
--- the words of a ring's header
-pub record Words (h b : List ℕ) : Type 0 where
-  pub c : ℕ
-  pub t : ℕ
-  pub n : ℕ
-  pub rest : List ℕ
-  pub is : h ≡ c ∷ t ∷ n ∷ rest
-  pub start : t < c
-  pub size : n ≤ c
-  pub room : c ≤ length b
-
-pub words : (h b : List ℕ) → Sound h b → Words h b
-words h b s =
-    by-words 3 (λ h. Sound h b → Words h b)
-    (λ c t n rest s. record { c = c; t = t; n = n; rest = rest; is = refl; start = s .start; size = s .size; room = s .room }) h (s .words) s

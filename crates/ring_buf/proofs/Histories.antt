@@ -5,20 +5,22 @@ use mathlib.Core.List.{List, [], _∷_, _++_, append-assoc, append-nil}
 use Prim.Native.Nat.{ℕ, _+_, _%_, _≤_, _<_}
 use native.Mathlib.Omega.{arith}
 use native.Mathlib.Nat.{mod-add-mod, add-zero, mod-eq-of-lt}
+use lib.Dec.{ltb}
 use lib.IntN.{ℤ}
 use lib.ListN.{length, take, drop, length-append, length-take, length-drop, take-append-drop}
 use lib.Seq.{drop-at, length-take-le}
-use Rattle.thread.specs.Code.{ok}
-use Rattle.store.specs.Store.{answer, handed}
-use Rattle.store.specs.History.{Step, Ran, fresh, ran, Made, made}
-use Rattle.store.proofs.Histories.{did-look, first-filled, from-start, allowed}
-use Rattle.ring_buf.specs.Ring.{Ring}
-use Rattle.ring_buf.specs.Bytes.{bytes, new, may, peek, gotten, seen}
+use Rattle.seq.specs.List.{any}
+use Rattle.thread.specs.Code.{ok, eagain, einval}
+use Rattle.store.specs.Store.{refuse, accept, answer, out}
+use Rattle.store.specs.History.{Step, Ran, fresh, ran, Made}
+use Rattle.store.proofs.Histories.{hands-made, from-start, allowed}
+use Rattle.ring_buf.specs.Ring.{Ring, leave}
+use Rattle.ring_buf.specs.Bytes.{bytes, new, may}
 use Rattle.ring_buf.specs.Post.{Starts, Gets, PeeksAt}
 use Rattle.ring_buf.specs.Counters.{Counted}
-use Rattle.ring_buf.specs.History.{Call, getting, peeking, does, gives, got, line, puts, gets, Promise}
+use Rattle.ring_buf.specs.History.{Call, getting, peeking, does, got, line, puts, gets, Promise}
 use Rattle.ring_buf.proofs.Counting.{wrap-mod, agrees}
-use Rattle.ring_buf.proofs.Calls.{Acts, adds, takes, stays, clears, Fits, acts-fit, new-fits, which, refused, peeked}
+use Rattle.ring_buf.proofs.Calls.{Acts, adds, takes, stays, clears, Fits, acts-fit, new-fits, which, refused}
 
 record Holds (c : ℕ) (ss : List (Step Call)) (r : Ring ℕ) : Type 0 where
   order : got ss ++ r .held ≡ line ss
@@ -69,12 +71,12 @@ module _ (c : ℕ) (ss : List (Step Call)) where
       }
 
 module _ (c : ℕ) (b : List ℕ) (m : may c b ≡ true) where
-  holds : {ss : List (Step Call)} {r : Ring ℕ} → Ran does gives (new c b) ss r → Holds c ss r
+  holds : {ss : List (Step Call)} {r : Ring ℕ} → Ran does (new c b) ss r → Holds c ss r
   holds fresh = record { order = refl; fixed = refl; fits = new-fits c b m; size = refl; start = sym (mod-eq-of-lt (new-fits c b m .below)) }
   holds (ran {ss} {s = r} {k} o o' x f) =
       acts-hold c ss k (answer (does k r)) o' (holds x) (which (r .capacity) (r .start) (r .held) (r .spare) k o o' f)
 
-  pub promised : {ss : List (Step Call)} {r : Ring ℕ} → Ran does gives (new c b) ss r → Promise c ss r
+  pub promised : {ss : List (Step Call)} {r : Ring ℕ} → Ran does (new c b) ss r → Promise c ss r
   promised {ss} {r} x =
       let h = holds x in
       let p : c < 4294967296 → Counted (puts ss) (gets ss) r =
@@ -97,20 +99,18 @@ module _ (c : ℕ) (b : List ℕ) (m : may c b ≡ true) where
       }
 
 -- the same of a ring in memory, after an init that is answered 0
-pub from-init : (c : ℕ) {h b h₀ : List ℕ} → Starts c h b ok h₀ → {ss : List (Step Call)} {h' b' : List ℕ} → Made bytes does gives h₀ b ss h' b'
+pub from-init : (c : ℕ) {h b h₀ : List ℕ} → Starts c h b ok h₀ → {ss : List (Step Call)} {h' b' : List ℕ} → Made bytes does h₀ b ss h' b'
     → (bytes .formed h' b' ≡ true) × Promise c ss (bytes .object h' b')
-from-init c {b = b} s x = let a = from-start bytes does gives s x in (a .0, promised c b (allowed s) (a .1))
+from-init c {b = b} s x = let a = from-start bytes does s x in (a .0, promised c b (allowed s) (a .1))
 
-one : (c : Bool) (l : List ℕ) → length (cond c (take 1 l) []) ≤ 1
-one true l = omega (arith, length-take 1 l)
-one false l = omega arith
+one : (c : Bool) (s : Ring ℕ) (e : ℤ) (l : List ℕ) → length (out (cond c (accept s ok (take 1 l)) (refuse e))) ≤ 1
+one true s e l = omega (arith, length-take 1 l)
+one false s e l = omega arith
 
--- what get and peek_at ensure is a step too: the place for what is handed out is one byte
-module _ {h₀ b₀ h b : List ℕ} {ss : List (Step Call)} {r : ℤ} (x y : ℕ) (m : Made bytes does gives h₀ b₀ ss h b) where
-  pub get-made : {h' : List ℕ} → Gets h b x r h' y → Made bytes does gives h₀ b₀ (record { call = getting; answer = r; out = y ∷ [] } ∷ ss) h' b
-  get-made (d, e) = made (x ∷ []) (y ∷ []) m d (first-filled (handed bytes (gotten 1) h b) x y (one (bytes .formed h b) (bytes .object h b .held)) e)
+-- what get and peek_at ensure is a step too
+module _ {h₀ b₀ h b : List ℕ} {ss : List (Step Call)} {r : ℤ} (x y : ℕ) (m : Made bytes does h₀ b₀ ss h b) where
+  pub get-made : {h' : List ℕ} → Gets h b x r h' y → Made bytes does h₀ b₀ (record { call = getting; answer = r; out = y ∷ [] } ∷ ss) h' b
+  get-made d = hands-made bytes does m (λ s. one (any (s .held)) (leave 1 s) eagain (s .held)) x y d
 
-  pub peek-made : (i : ℕ) → PeeksAt i h b x r y → Made bytes does gives h₀ b₀ (record { call = peeking i; answer = r; out = y ∷ [] } ∷ ss) h b
-  peek-made i (e, f) =
-      made (x ∷ []) (y ∷ []) m (did-look bytes (peek i) h b (λ s. peeked i s) e)
-      (first-filled (handed bytes (seen i) h b) x y (one (bytes .formed h b) (drop i (bytes .object h b .held))) f)
+  pub peek-made : (i : ℕ) → PeeksAt i h b x r y → Made bytes does h₀ b₀ (record { call = peeking i; answer = r; out = y ∷ [] } ∷ ss) h b
+  peek-made i d = hands-made bytes does m (λ s. one (ltb i (length (s .held))) s einval (drop i (s .held))) x y d

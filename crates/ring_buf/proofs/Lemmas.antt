@@ -12,11 +12,11 @@ use lib.Dec.{leb}
 use lib.IntN.{pos}
 use lib.Signed.{mag}
 use lib.ListN.{length, drop, length-append}
-use Rattle.store.specs.Store.{left}
+use Rattle.store.specs.Store.{left, out}
 use Rattle.ring_buf.specs.Ring.{Ring, wrap}
 use Rattle.ring_buf.specs.Bytes.{new}
 use Rattle.ring_buf.specs.Counters.{difference, offset}
-use Rattle.ring_buf.specs.History.{does, gives}
+use Rattle.ring_buf.specs.History.{does}
 use Rattle.ring_buf.specs.Post.{ClaimDecided, FinishDecided, SpaceGetDecided, SizeGetDecided}
 use Rattle.ring_buf.specs.Upstream.{RingBuf, shown, Inv, WrappingSub, ClaimDecide, FinishDecide, SpaceGetDecide, SizeGetDecide, Whole, Inductive, PutGet, RingConsistency, Conservation, ResetEmpties, filled, drained, after, FillDrain}
 use Rattle.ring_buf.proofs.Rings.{by-lt, wrap-low, wrap-high, length-turn}
@@ -89,7 +89,7 @@ pub invariant-inductive : Inductive
 invariant-inductive =
     record {
       init = λ c b m. fits-inv (new c b) (new-fits c b m);
-      calls = λ s k i w. let o = gives k s ++ drop (length (gives k s)) [] in
+      calls = λ s k i w. let o = out (does k s) ++ drop (length (out (does k s))) [] in
           fits-inv (left (does k s) s) (acts-fit (which (s .capacity) (s .start) (s .held) (s .spare) k [] o refl) (record { whole = w; below = i .head }) .0);
     }
 

@@ -2,7 +2,6 @@ pub mod Rings
 pub mod Parts
 pub mod Copying
 pub mod Headers
-pub mod Memory
 pub mod Answers
 pub mod Counting
 pub mod Determined

@@ -8,10 +8,10 @@ use lib.IntN.{ℤ, pos}
 use lib.ListN.{length, take, drop, getD, length-append, length-take, length-drop, take-append-drop}
 use lib.Seq.{take-at}
 use Rattle.thread.specs.Code.{ok}
-use Rattle.store.specs.Store.{accept, first}
+use Rattle.store.specs.Store.{accept, out, first}
 use Rattle.store.proofs.Laws.{any-some, became, answers, handed-is}
 use Rattle.ring_buf.specs.Ring.{Ring, wrap, append, leave}
-use Rattle.ring_buf.specs.Bytes.{held, bytes, put, get, putMany, getMany, gotten}
+use Rattle.ring_buf.specs.Bytes.{held, bytes, put, get, putMany, getMany}
 use Rattle.ring_buf.specs.Post.{Puts, Gets, PutsN, GetsN}
 use Rattle.ring_buf.specs.Upstream.{RingBuf, struct, view, Inv, Housed, PutN, GetN, Stored, Taken}
 use Rattle.ring_buf.proofs.Rings.{wrap-below}
@@ -68,7 +68,7 @@ module _ (h b : List ℕ) (r : ℤ) (h' : List ℕ) (k : Housed h b) (i : Inv (v
   -- which bytes: all that there is room for, or that there are
   pub put-stores : (x : ℕ) (b' : List ℕ) → getD h 2 0 < getD h 0 0 → Puts x h b r h' b' → Stored (x ∷ []) (held h b) (held h' b')
   put-stores x b' f d =
-      let e : put x (held h b) ≡ accept (append (x ∷ []) (held h b)) ok = rw (any-some (held h b .spare) (omega (arith, spare-is h b s))) refl in
+      let e : put x (held h b) ≡ accept (append (x ∷ []) (held h b)) ok [] = rw (any-some (held h b .spare) (omega (arith, spare-is h b s))) refl in
       record { held = ap (λ (r : Ring ℕ). r .held) (became bytes (put x) h b d good e .object) }
 
   pub put-n-stores : (l b' : List ℕ) → PutsN l h b r h' b'
@@ -83,10 +83,10 @@ module _ (h b : List ℕ) (r : ℤ) (h' : List ℕ) (k : Housed h b) (i : Inv (v
 
   pub get-takes : (x y : ℕ) → 0 < getD h 2 0 → Gets h b x r h' y → Taken (y ∷ []) (held h b) (held h' b)
   get-takes x y f (d, q) =
-      let e : get (held h b) ≡ accept (leave 1 (held h b)) ok = rw (any-some (held h b .held) (omega (arith, held-is h b s))) refl in
+      let e : get (held h b) ≡ accept (leave 1 (held h b)) ok (take 1 (held h b .held)) = rw (any-some (held h b .held) (omega (arith, held-is h b s))) refl in
       record {
         held =
-            sym ((λ j. (q ∙ ap (first x) (handed-is bytes h b (gotten 1) good)) j ∷ became bytes get h b d good e .object j .held)
+            sym ((λ j. (q ∙ ap (first x) (handed-is bytes get h b good ∙ ap out e)) j ∷ became bytes get h b d good e .object j .held)
             ∙ whole (held h b .held) (omega (arith, held-is h b s)));
       }
     where
@@ -100,7 +100,7 @@ module _ (h b : List ℕ) (r : ℤ) (h' : List ℕ) (k : Housed h b) (i : Inv (v
       let l = held h b .held in
       let q = min (length o) (length l) in
       let e : q ≡ min (length o) (getD h 2 0) = ap (min (length o)) (held-is h b s) in
-      let g : o' ≡ take (length o) l ++ drop (length (take (length o) l)) o = rw (handed-is bytes h b (gotten (length o)) good) at f in
+      let g : o' ≡ take (length o) l ++ drop (length (take (length o) l)) o = rw (handed-is bytes (getMany (length o)) h b good) at f in
       let x : take q o' ≡ take q l = ap (take q) g ∙ take-at (take (length o) l) (drop (length (take (length o) l)) o) q (length-take (length o) l) ∙ take-least (length o) l in (
         answers bytes (getMany (length o)) h b d good ∙ ap pos e,
         record {

@@ -1,5 +1,5 @@
 -- Upstream's other functions on a ring: peek, reset, init, and those that only read. Assumes nothing.
-use mathlib.Core.Path.{_≡_, refl, sym, ap, subst, _∙_}
+use mathlib.Core.Path.{_≡_, refl, sym, subst, _∙_}
 use mathlib.Core.Bool.{Bool, true, false}
 use mathlib.Core.Logic.{inl, inr}
 use mathlib.Core.List.{List}
@@ -12,15 +12,16 @@ use lib.IntN.{ℤ}
 use lib.ListN.{length, getD}
 use Rattle.seq.proofs.Order.{cond-same}
 use Rattle.thread.specs.Code.{ok, einval}
-use Rattle.store.specs.Store.{Reply, Did, looks, first}
+use Rattle.store.specs.Store.{Reply, Did, looks}
 use Rattle.store.proofs.Laws.{became, kept-bad, looks-bad}
-use Rattle.ring_buf.specs.Ring.{Ring, wrap}
+use Rattle.ring_buf.specs.Ring.{Ring}
 use Rattle.ring_buf.specs.Bytes.{bytes, may, reset}
 use Rattle.ring_buf.specs.Post.{Starts, PeeksAt, Resets, GetsSize, GetsSpace, GetsCapacity, SaysEmpty, SaysFull, GetsHead, GetsTail}
 use Rattle.ring_buf.specs.Upstream.{RingBuf, struct, view, Inv, Housed, Init, PeekAt, Reset, SizeGet, SpaceGet, CapacityGet, IsEmpty, IsFull, HeadGet, TailGet}
 use Rattle.ring_buf.proofs.Rings.{wrap-low, wrap-below}
 use Rattle.ring_buf.proofs.Headers.{Sound, from-sound}
-use Rattle.ring_buf.proofs.Answers.{peek-ok, peek-past, seen-is, size-told, space-told, capacity-told, head-told, tail-told, empty-told, some-told, full-told, free-told}
+use Rattle.ring_buf.proofs.Answers.{peek-past, peek-done, size-told, space-told, capacity-told, head-told, tail-told, empty-told, some-told, full-told, free-told}
+use Rattle.ring_buf.proofs.Determined.{determined}
 use Rattle.ring_buf.proofs.Upstream.{inv, inv-formed, became-view}
 
 module _ (h b : List ℕ) (r : ℤ) (h' : List ℕ) (k : Housed h b) (i : Inv (view h)) where
@@ -46,13 +47,16 @@ module _ (h b : List ℕ) (r : ℤ) (h' : List ℕ) (k : Housed h b) (i : Inv (v
       })
 
   pub ring-peek-at : (idx x y : ℕ) → PeeksAt idx h b x r y → PeekAt idx (view h) b r y
-  ring-peek-at idx x y (d, q) =
+  ring-peek-at idx x y d =
       record {
-        done = λ f. d ∙ peek-ok h b s idx f;
+        done = λ f j. same (peek-done h b s x idx _ f refl) j .0;
         within = λ f. wrap-below (getD h 1 0 + idx) (getD h 0 0) (omega arith);
-        slot = λ f. q ∙ ap (first x) (seen-is h b s idx (wrap (getD h 1 0 + idx) (getD h 0 0)) f refl);
-        past = λ f. d ∙ peek-past h b s idx f;
+        slot = λ f j. same (peek-done h b s x idx _ f refl) j .1;
+        past = λ f j. same (peek-past h b s x idx f) j .0;
       }
+    where
+      same : {r' : ℤ} {y' : ℕ} → PeeksAt idx h b x r' y' → _≡_ {A = ℤ × ℕ} (r, y) (r', y')
+      same {r'} {y'} e = determined .peek-at idx h b x (r, y) (r', y') d e
 
   -- functions that only read
   pub size-get : GetsSize h b r → SizeGet (view h) r

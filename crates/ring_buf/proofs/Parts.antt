@@ -31,11 +31,15 @@ filled d s d' n i e h g is =
     let z : i ≡ length (take (length d) s) = omega (arith, length-take (length d) s) in
     is ∙ (λ k. y k ++ drop (z k) d)
 
+-- what fills a place whole
+pub whole : (l d : List ℕ) → length l ≡ length d → l ++ drop (length l) d ≡ l
+whole l d e = ap (λ (x : List ℕ). l ++ x) (drop-of-length-le d {i = length l} (omega arith)) ∙ append-nil l
+
 -- a copy that fits exactly
 pub exact : (d s q : List ℕ) → length d ≡ length s → Filled (take (length d) s) d q → q ≡ s
 exact d s q e f =
     let x : take (length d) s ≡ s = take-all (length d) s (omega arith) in
-    f ∙ (λ i. x i ++ drop (length (x i)) d) ∙ ap (λ (l : List ℕ). s ++ l) (drop-of-length-le d {i = length s} (omega arith)) ∙ append-nil s
+    f ∙ (λ i. x i ++ drop (length (x i)) d) ∙ whole s d (sym e)
 
 -- a part that is lent and comes back as s's first k
 pub lent-back : (b s q : List ℕ) (a e k : ℕ) → e ≡ a + k → q ≡ take k s → putMid a (e - a) b q ≡ paste b a s k

@@ -4,10 +4,11 @@ use mathlib.Core.List.{List, [], _∷_, _++_, append-assoc}
 use Prim.Native.Nat.{ℕ, zero, suc, _+_, _-_, _≤_, _<_}
 use native.Mathlib.Decide.{decLt}
 use native.Mathlib.Nat.{zero-sub, sub-zero, suc-sub-suc}
+use native.Mathlib.Numerals.{add-one}
 use native.Mathlib.Omega.{arith}
 use borrow.Author.Tests.{lt-ltb, le-ltb}
-use lib.ListN.{length, take, drop, length-append, length-take, length-drop, take-append-drop}
-use lib.Seq.{take-append-le, drop-append-le, take-append-add, drop-append-add, drop-at, take-add, drop-drop, take-take, take-nil, paste, take-paste, drop-paste}
+use lib.ListN.{length, take, drop, set, length-append, length-take, length-drop, take-append-drop}
+use lib.Seq.{set-split, append-snoc, take-append-le, drop-append-le, take-append-add, drop-append-add, drop-at, take-add, drop-drop, take-take, take-nil, paste, take-paste, drop-paste}
 use Rattle.ring_buf.specs.Ring.{wrap, turn, ring, append, lead, leave, clear}
 
 pub wrap-low : (x n : ℕ) → x < n → wrap x n ≡ x
@@ -38,6 +39,10 @@ wrap-wrap t u k n h r =
     ap (λ (x : ℕ). wrap (x + k) n) w ∙ ap (λ (x : ℕ). wrap x n) e ∙ wrap-low (t + (u + k) - n) n (omega arith) ∙ sym (wrap-high (t + (u + k)) n (omega arith)))
 
 module _ {A : Type 0} where
+  -- one element that is written is a piece of one
+  pub set-paste : (b : List A) (i : ℕ) (x : A) → i < length b → set b i x ≡ paste b i (x ∷ []) 1
+  set-paste b i x f = set-split b i x f ∙ sym (append-snoc (take i b) x (drop (suc i) b)) ∙ ap (λ (n : ℕ). take i b ++ (x ∷ []) ++ drop n b) (sym (add-one i))
+
   pub drop-take : (m n : ℕ) (l : List A) → drop m (take n l) ≡ take (n - m) (drop m l)
   drop-take zero n l = rw sub-zero
   drop-take (suc m) zero l = rw zero-sub

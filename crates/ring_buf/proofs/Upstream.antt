@@ -6,18 +6,18 @@ use Prim.Native.Nat.{ℕ, _+_, _-_, _≤_, _<_}
 use native.Mathlib.Omega.{arith}
 use borrow.Author.Tests.{lt-ltb, le-ltb}
 use lib.IntN.{ℤ}
-use lib.ListN.{length, drop, getD, length-append, length-drop}
+use lib.ListN.{length, take, drop, getD, length-append, length-drop}
 use Rattle.thread.specs.Code.{ok, eagain}
-use Rattle.store.specs.Store.{refuse, accept, answer, Becomes, first}
-use Rattle.store.proofs.Determined.{did-same}
-use Rattle.store.proofs.Laws.{any-some, any-none, became, answers, kept-no}
+use Rattle.store.specs.Store.{refuse, accept, Becomes}
+use Rattle.store.proofs.Determined.{did-same, hands-only}
+use Rattle.store.proofs.Laws.{any-some, any-none, became, kept-no}
 use Rattle.ring_buf.specs.Ring.{Ring, wrap, append, leave}
 use Rattle.ring_buf.specs.Bytes.{held, bytes, put, get}
 use Rattle.ring_buf.specs.Post.{Puts, Gets}
 use Rattle.ring_buf.specs.Upstream.{RingBuf, struct, view, shown, nextIdx, Consistent, Inv, Housed, Put, Get}
 use Rattle.ring_buf.proofs.Rings.{by-lt, wrap-low, wrap-high, wrap-below, wrap-wrap}
 use Rattle.ring_buf.proofs.Headers.{Sound, from-sound, is-sound}
-use Rattle.ring_buf.proofs.Answers.{held-is, spare-is, put-done, got-first}
+use Rattle.ring_buf.proofs.Answers.{held-is, spare-is, put-done, get-done}
 use Rattle.ring_buf.proofs.Determined.{faithful}
 
 -- ---- on numbers
@@ -72,7 +72,7 @@ module _ (h b : List ℕ) (r : ℤ) (h' : List ℕ) (k : Housed h b) (i : Inv (v
     where
       done : getD h 2 0 < getD h 0 0 → Put x (view h) b r (view h') b'
       done f =
-          let e : put x (held h b) ≡ accept (append (x ∷ []) (held h b)) ok = rw (any-some (held h b .spare) (omega (arith, spare-is h b s))) refl in
+          let e : put x (held h b) ≡ accept (append (x ∷ []) (held h b)) ok [] = rw (any-some (held h b .spare) (omega (arith, spare-is h b s))) refl in
           let n : length (held h b .held ++ x ∷ []) ≡ getD h 2 0 + 1 = length-append (held h b .held) (x ∷ []) ∙ ap (λ (y : ℕ). y + 1) (held-is h b s) in
           let v : view h' ≡ is (getD h 1 0) (getD h 2 0 + 1) = became-view (became bytes (put x) h b d good e) ∙ ap (is (getD h 1 0)) n in
           let o = did-same faithful h b (put x) d (put-done h b s x (view h .tail) f refl) in
@@ -115,16 +115,17 @@ module _ (h b : List ℕ) (r : ℤ) (h' : List ℕ) (k : Housed h b) (i : Inv (v
     where
       done : 0 < getD h 2 0 → Get (view h) b r (view h') y
       done f =
-          let e : get (held h b) ≡ accept (leave 1 (held h b)) ok = rw (any-some (held h b .held) (omega (arith, held-is h b s))) refl in
+          let e : get (held h b) ≡ accept (leave 1 (held h b)) ok (take 1 (held h b .held)) = rw (any-some (held h b .held) (omega (arith, held-is h b s))) refl in
           let n : length (drop 1 (held h b .held)) ≡ getD h 2 0 - 1 = length-drop 1 (held h b .held) ∙ ap (λ (y : ℕ). y - 1) (held-is h b s) in
           let v : view h' ≡ is (wrap (getD h 1 0 + 1) (getD h 0 0)) (getD h 2 0 - 1) =
           became-view (became bytes get h b d good e) ∙ ap (is (wrap (getD h 1 0 + 1) (getD h 0 0))) n in
+          let o = hands-only faithful h b get x (r, h', y) _ (d, q) (get-done h b s x (getD h 1 0) _ f refl refl) in
           subst (λ (v' : RingBuf). Get (view h) b r v' y) (sym v)
           (record {
             inv = inv (getD h 0 0) (wrap (getD h 1 0 + 1) (getD h 0 0)) (getD h 2 0 - 1) (wrap-below (getD h 1 0 + 1) (getD h 0 0) (omega arith)) (omega arith);
             room = refl;
-            done = λ z. answers bytes get h b d good ∙ ap answer e;
-            slot = λ z. q ∙ ap (first x) (got-first h b s f);
+            done = λ z j. o j .0;
+            slot = λ z j. o j .2;
             shorter = λ z. refl;
             head = λ z. next (getD h 0 0) (getD h 1 0) (getD h 2 0) (s .start) (s .size) (getD h 1 0) (s .start);
             tail = λ z. fewer (getD h 0 0) (getD h 1 0) (getD h 2 0) (s .start) (s .size) f;

@@ -35,33 +35,26 @@ may c b = cond (ltb 0 c) (leb c (length b)) false
 
 -- the byte x goes behind what is held; a full ring: -11
 abbrev pub put : ℕ → Ring ℕ → Reply (Ring ℕ)
-put x r = cond (any (r .spare)) (accept (append (x ∷ []) r) ok) (refuse eagain)
+put x r = cond (any (r .spare)) (accept (append (x ∷ []) r) ok []) (refuse eagain)
 
--- the first byte leaves; an empty ring: -11
+-- the first byte leaves, and is handed out; an empty ring: -11
 abbrev pub get : Ring ℕ → Reply (Ring ℕ)
-get r = cond (any (r .held)) (accept (leave 1 r) ok) (refuse eagain)
+get r = cond (any (r .held)) (accept (leave 1 r) ok (take 1 (r .held))) (refuse eagain)
 
 -- as many of l as are free go behind what is held; the answer is their number
 abbrev pub putMany : List ℕ → Ring ℕ → Reply (Ring ℕ)
-putMany l r = accept (append (take (min (length l) (length (r .spare))) l) r) (pos (min (length l) (length (r .spare))))
+putMany l r = accept (append (take (min (length l) (length (r .spare))) l) r) (pos (min (length l) (length (r .spare)))) []
 
--- n bytes leave, or all; the answer is their number
+-- n bytes leave, or all, and are handed out; the answer is their number
 abbrev pub getMany : ℕ → Ring ℕ → Reply (Ring ℕ)
-getMany n r = accept (leave (min n (length (r .held))) r) (pos (min n (length (r .held))))
+getMany n r = accept (leave (min n (length (r .held))) r) (pos (min n (length (r .held)))) (take n (r .held))
 
--- nothing changes; past the end: -22
+-- the byte behind i others is handed out, and nothing changes; past the end: -22
 abbrev pub peek : ℕ → Ring ℕ → Reply (Ring ℕ)
-peek i r = cond (ltb i (length (r .held))) (accept r ok) (refuse einval)
+peek i r = cond (ltb i (length (r .held))) (accept r ok (take 1 (drop i (r .held)))) (refuse einval)
 
 abbrev pub reset : Ring ℕ → Reply (Ring ℕ)
-reset r = accept (clear r) ok
-
--- the bytes that a call hands out
-abbrev pub gotten : ℕ → Ring ℕ → List ℕ
-gotten n r = take n (r .held)
-
-abbrev pub seen : ℕ → Ring ℕ → List ℕ
-seen i r = take 1 (drop i (r .held))
+reset r = accept (clear r) ok []
 
 -- what the other functions answer
 abbrev pub sizeOf : Ring ℕ → ℤ

@@ -8,7 +8,7 @@ use lib.ListN.{length, take, drop}
 use Rattle.store.specs.Store.{Reply, answer, left}
 use Rattle.store.specs.History.{Step}
 use Rattle.ring_buf.specs.Ring.{Ring}
-use Rattle.ring_buf.specs.Bytes.{put, get, putMany, getMany, peek, reset, gotten, seen}
+use Rattle.ring_buf.specs.Bytes.{put, get, putMany, getMany, peek, reset}
 use Rattle.ring_buf.specs.Counters.{Counted, Agrees}
 
 pub data Call : Type 0 where
@@ -26,14 +26,6 @@ does (puttingMany l) r = putMany l r
 does (gettingMany n) r = getMany n r
 does (peeking i) r = peek i r
 does resetting r = reset r
-
-abbrev pub gives : Call → Ring ℕ → List ℕ
-gives (putting x) r = []
-gives getting r = gotten 1 r
-gives (puttingMany l) r = []
-gives (gettingMany n) r = gotten n r
-gives (peeking i) r = seen i r
-gives resetting r = []
 
 -- ---- from a call, its answer and its place for what is handed out
 

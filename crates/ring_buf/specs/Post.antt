@@ -5,10 +5,10 @@ use mathlib.Core.List.{List}
 use Prim.Native.Nat.{ℕ}
 use lib.IntN.{ℤ}
 use lib.ListN.{length, take}
-use Rattle.store.specs.Store.{answer, Did, looks, handed, Filled, first, Fills, Hands, Started}
-use Rattle.ring_buf.specs.Ring.{Ring, wrap}
+use Rattle.store.specs.Store.{Did, looks, Filled, Fills, Hands, Started}
+use Rattle.ring_buf.specs.Ring.{wrap}
 use Rattle.ring_buf.specs.Counters.{offset, claimed, finishes, room, amount}
-use Rattle.ring_buf.specs.Bytes.{sound, bytes, new, may, put, get, putMany, getMany, peek, reset, gotten, seen, sizeOf, spaceOf, capacityOf, headOf, tailOf, empty, full}
+use Rattle.ring_buf.specs.Bytes.{sound, bytes, new, may, put, get, putMany, getMany, peek, reset, sizeOf, spaceOf, capacityOf, headOf, tailOf, empty, full}
 
 -- ---- of places and bytes
 
@@ -35,7 +35,7 @@ Puts x h b r h' b' = Did bytes (put x) h b r h' b'
 
 -- the first byte comes out, to the word x
 abbrev pub Gets : List ℕ → List ℕ → ℕ → ℤ → List ℕ → ℕ → Type 0
-Gets h b x r h' x' = Hands bytes get (gotten 1) h b x r h' x'
+Gets h b x r h' x' = Hands bytes get h b x r h' x'
 
 -- the first of src go behind those that are held, as many as there is room for
 abbrev pub PutsN : List ℕ → List ℕ → List ℕ → ℤ → List ℕ → List ℕ → Type 0
@@ -43,11 +43,11 @@ PutsN src h b r h' b' = Did bytes (putMany src) h b r h' b'
 
 -- the first bytes come out, as many as out has room for
 abbrev pub GetsN : List ℕ → List ℕ → List ℕ → ℤ → List ℕ → List ℕ → Type 0
-GetsN h b out r h' out' = Fills bytes (getMany (length out)) (gotten (length out)) h b out r h' out'
+GetsN h b out r h' out' = Fills bytes (getMany (length out)) h b out r h' out'
 
 -- the byte behind i others is told to the word x
 abbrev pub PeeksAt : ℕ → List ℕ → List ℕ → ℕ → ℤ → ℕ → Type 0
-PeeksAt i h b x r x' = (r ≡ looks bytes (λ (s : Ring ℕ). answer (peek i s)) h b) × (x' ≡ first x (handed bytes (seen i) h b))
+PeeksAt i h b x r x' = Hands bytes (peek i) h b x r h x'
 
 -- nothing is held
 abbrev pub Resets : List ℕ → List ℕ → ℤ → List ℕ → Type 0

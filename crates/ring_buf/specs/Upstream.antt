@@ -9,9 +9,9 @@ use lib.IntN.{ℤ, pos}
 use lib.ListN.{length, getD, set}
 use Rattle.thread.specs.Code.{ok, eagain, einval}
 use Rattle.thread.specs.Upstream.{Tells}
-use Rattle.store.specs.Store.{refuse, left}
+use Rattle.store.specs.Store.{refuse, left, out}
 use Rattle.ring_buf.specs.Ring.{Ring, wrap}
-use Rattle.ring_buf.specs.Bytes.{put, get, reset, gotten, new, may, sizeOf, spaceOf, capacityOf}
+use Rattle.ring_buf.specs.Bytes.{put, get, reset, new, may, sizeOf, spaceOf, capacityOf}
 use Rattle.ring_buf.specs.History.{Call, does}
 
 -- RingBuf
@@ -263,7 +263,7 @@ pub record PutGet (s : Ring ℕ) (x : ℕ) : Type 0 where
   -- after_get == size
   pub size : length (left (get (left (put x s) s)) (left (put x s) s) .held) ≡ length (s .held)
   -- what came out, then what is held, is what was held, then x
-  pub order : gotten 1 (left (put x s) s) ++ left (get (left (put x s) s)) (left (put x s) s) .held ≡ s .held ++ x ∷ []
+  pub order : out (get (left (put x s) s)) ++ left (get (left (put x s) s)) (left (put x s) s) .held ≡ s .held ++ x ∷ []
 
 -- lemma_ring_consistency: what it ensures is what it requires. The tail that satisfies it is the one that is worked out
 pub record RingConsistency (v : RingBuf) : Type 0 where
@@ -295,7 +295,7 @@ filled s (x ∷ l) = filled (left (put x s) s) l
 -- n are got, one by one: what came out, the first first, and what is left
 abbrev pub drained : Ring ℕ → ℕ → List ℕ
 drained s zero = []
-drained s (suc n) = gotten 1 s ++ drained (left (get s) s) n
+drained s (suc n) = out (get s) ++ drained (left (get s) s) n
 
 abbrev pub after : Ring ℕ → ℕ → Ring ℕ
 after s zero = s

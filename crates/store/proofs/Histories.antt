@@ -1,5 +1,5 @@
 -- Steps that are made in memory are steps of the object that it holds. Assumes nothing.
-use mathlib.Core.Path.{_≡_, refl, sym, ap, subst, _∙_}
+use mathlib.Core.Path.{_≡_, refl, sym, ap, subst}
 use mathlib.Core.Bool.{Bool, true, false, cond}
 use mathlib.Core.List.{List, [], _∷_}
 use Prim.Native.Nat.{ℕ, _≤_}
@@ -8,9 +8,9 @@ use lib.Dec.{leb}
 use lib.IntN.{ℤ}
 use lib.ListN.{length}
 use Rattle.thread.specs.Code.{ok, einval}
-use Rattle.store.specs.Store.{Reply, refuse, accept, answer, left, out, Place, reply, After, Did, looks, Filled, first, Hands, Started}
+use Rattle.store.specs.Store.{Reply, refuse, accept, answer, left, out, Place, reply, After, Did, Filled, first, Hands, Started}
 use Rattle.store.specs.History.{Step, Ran, fresh, ran, Made, begun, made}
-use Rattle.store.proofs.Laws.{replies, answers, did-bad, looks-is, looks-bad, handed-is}
+use Rattle.store.proofs.Laws.{replies, answers, handed-is}
 
 module _ {S : Type 0} (P : Place S) where
   leaves : (y : Reply S) (h b h' b' : List ℕ) → P .formed h b ≡ true → After P y h b h' b'
@@ -28,22 +28,6 @@ module _ {S : Type 0} (P : Place S) where
       → R (answer (f (P .object h b))) (left (f (P .object h b)) (P .object h b)) → R r (P .object h' b')
   holds-after f h b R {r} e d a =
       subst (λ (s : S). R r s) (sym (done f h b e d .1)) (subst (λ (z : ℤ). R z (left (f (P .object h b)) (P .object h b))) (sym (answers P f h b d e)) a)
-
-  -- a call that only reads
-  pub did-look : (f : S → Reply S) (h b : List ℕ) {r : ℤ} → ((s : S) → left (f s) s ≡ s) → r ≡ looks P (λ s. answer (f s)) h b → Did P f h b r h b
-  did-look f h b {r} n e = go (P .formed h b) refl
-    where
-      after : (y : Reply S) → P .formed h b ≡ true → left y (P .object h b) ≡ P .object h b → After P y h b h b
-      after (refuse c) k l = (refl, refl)
-      after (accept s c o) k l = record { formed = k; object = sym l; beside = refl; rest = refl; long = (refl, refl) }
-
-      go : (x : Bool) → P .formed h b ≡ x → Did P f h b r h b
-      go true k =
-          record {
-            code = e ∙ looks-is P h b (λ s. answer (f s)) k ∙ sym (ap answer (replies P f h b k));
-            after = subst (λ (y : Reply S). After P y h b h b) (sym (replies P f h b k)) (after (f (P .object h b)) k (n (P .object h b)));
-          }
-      go false k = subst (λ (c : ℤ). Did P f h b c h b) (sym (e ∙ looks-bad P h b (λ s. answer (f s)) k)) (did-bad P f h b k)
 
 -- a place for one
 pub first-filled : (l : List ℕ) (x y : ℕ) → length l ≤ 1 → y ≡ first x l → Filled l (x ∷ []) (y ∷ [])

@@ -195,6 +195,10 @@ module _ {S : Type 0} (P : Place S) (h b : List ℕ) where
   pub looks-is : (f : S → ℤ) → P .formed h b ≡ true → looks P f h b ≡ f (P .object h b)
   looks-is f e = rw e
 
+  -- nothing was written
+  pub as-was : P .formed h b ≡ true → Becomes P (P .object h b) h b h b
+  as-was e = record { formed = e; object = refl; beside = refl; rest = refl; long = (refl, refl) }
+
 module _ {S : Type 0} {P : Place S} {may : Bool} {s : S} {h b : List ℕ} where
   -- a header that is too short
   pub start-short : length h < P .words → Started P may s h b einval h b

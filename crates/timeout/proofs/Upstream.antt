@@ -23,7 +23,7 @@ use Rattle.timeout.proofs.Memory.{right-is, sound}
 use Rattle.timeout.proofs.Sets.{adds, adds-absolute, fixed}
 use Rattle.timeout.proofs.Moves.{aborts, announces}
 
--- numbers are a timeout's exactly if upstream's invariant holds-after of it
+-- numbers are a timeout's exactly if upstream's invariant holds of it
 pub inv-right : (d a c : ℕ) → Inv (timeout d a c) → right (ltb 0 a) d c ≡ true
 inv-right d a c i =
     less 0 a (λ e. ⊎-elim (λ z. right-at-once d c (i .tick) (ltb 0 a) z) (λ z. right-ahead d c (i .tick) (ltb 0 a) z) (i .ahead e))

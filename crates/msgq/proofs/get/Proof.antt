@@ -1,9 +1,7 @@
 -- One law for each answer. Assumes nothing.
-use mathlib.Core.Path.{_∙_}
 use native.Mathlib.Omega.{arith}
 use lib.ListN.{length, length-set}
-use Rattle.msgq.proofs.Looks.{slot-fits, zero-behind, unseen, shown}
-use Rattle.msgq.proofs.Answers.{did-size, handed-size, get-empty, get-done}
+use Rattle.msgq.proofs.Answers.{slot-fits, fills-size, get-empty, get-done}
 use Rattle.msgq.proofs.Headers.{was-false, taken}
 use borrow.Author.Needs.{needs}
 use Rattle.msgq.proofs.get.Statement.{statement}
@@ -16,7 +14,7 @@ same-length : tie.Need-same-length
 same-length c = search needs
 
 returns : tie.Need-returns
-returns c = let a = c .before .before .before .before .before .before .args in (did-size (a .h .now) (a .b .now) (length (a .out .now)) (was-false (c .before .sized .ensures) (c .if1 .taken)) _, handed-size (a .h .now) (a .b .now) (length (a .out .now)) (was-false (c .before .sized .ensures) (c .if1 .taken)) 0 (a .out .now))
+returns c = let a = c .before .before .before .before .before .before .args in fills-size (a .h .now) (a .b .now) (length (a .out .now)) (was-false (c .before .sized .ensures) (c .if1 .taken)) _ (a .out .now)
 
 slice-read-used : tie.Need-slice-read-used
 slice-read-used c = let a = c .before .before .before .before .before .before .before .args in let s = taken (a .h .now) (a .b .now) (length (a .out .now)) (c .before .before .sized .ensures) (c .before .if1 .left) in omega arith
@@ -25,7 +23,7 @@ same-length-2 : tie.Need-same-length-2
 same-length-2 c = search needs
 
 returns-2 : tie.Need-returns-2
-returns-2 c = let a = c .before .before .before .before .before .before .before .before .args in let s = taken (a .h .now) (a .b .now) (length (a .out .now)) (c .before .before .before .sized .ensures) (c .before .before .if1 .left) in (get-empty (a .h .now) (a .b .now) (s .0) (a .out .now) (s .1) (omega arith), unseen (a .h .now) (a .b .now) (s .0) (a .out .now) 0 (s .1) (omega arith))
+returns-2 c = let a = c .before .before .before .before .before .before .before .before .args in let s = taken (a .h .now) (a .b .now) (length (a .out .now)) (c .before .before .before .sized .ensures) (c .before .before .if1 .left) in get-empty (a .h .now) (a .b .now) (s .0) (a .out .now) (s .1) (omega arith)
 
 slice-read-t : tie.Need-slice-read-t
 slice-read-t c = let a = c .before .before .before .before .before .before .before .before .before .args in let s = taken (a .h .now) (a .b .now) (length (a .out .now)) (c .before .before .before .before .sized .ensures) (c .before .before .before .if1 .left) in omega arith
@@ -58,7 +56,7 @@ same-length-4 : tie.Need-same-length-4
 same-length-4 c = search needs
 
 returns-3 : tie.Need-returns-3
-returns-3 c = let a = c .before .before .before .before .before .before .before .before .before .before .before .before .before .before .before .before .args in let s = taken (a .h .now) (a .b .now) (length (a .out .now)) (c .before .before .before .before .before .before .before .before .before .before .before .sized .ensures) (c .before .before .before .before .before .before .before .before .before .before .if1 .left) in (get-done (a .h .now) (a .b .now) (s .0) (a .out .now) (c .next .result) (s .1) (omega arith) (c .next .ensures), shown (a .h .now) (a .b .now) (s .0) (a .out .now) 0 (c .before .before .before .before .before .before .wide .result) (c .before .before .before .before .load .last .1 .1 .0) (s .1) (omega arith) (c .before .before .before .before .before .before .wide .ensures ∙ zero-behind (a .h .now) (a .b .now) (s .0)) (c .before .before .before .before .load .ensures))
+returns-3 c = let a = c .before .before .before .before .before .before .before .before .before .before .before .before .before .before .before .before .args in let s = taken (a .h .now) (a .b .now) (length (a .out .now)) (c .before .before .before .before .before .before .before .before .before .before .before .sized .ensures) (c .before .before .before .before .before .before .before .before .before .before .if1 .left) in get-done (a .h .now) (a .b .now) (s .0) (a .out .now) (s .1) (c .before .before .before .before .before .before .wide .result) (c .next .result) (c .before .before .before .before .load .last .1 .1 .0) (omega arith) (c .before .before .before .before .before .before .wide .ensures) (c .before .before .before .before .load .ensures) (c .next .ensures)
 
 pub get-spec : {M : Type 1} → statement M
 get-spec =

@@ -3,7 +3,7 @@ use mathlib.Core.Path.{sym}
 use native.Mathlib.Omega.{arith}
 use Rattle.store.proofs.Laws.{looks-bad}
 use Rattle.msgq.specs.Post.{messages}
-use Rattle.msgq.proofs.Looks.{empty-yes, empty-no}
+use Rattle.msgq.proofs.Answers.{empty-yes, empty-no}
 use Rattle.msgq.proofs.Headers.{was-false, passed}
 use Rattle.msgq.specs.Msgq.{empty}
 use borrow.Author.Needs.{needs}

@@ -2,8 +2,7 @@
 use mathlib.Core.Path.{_∙_}
 use native.Mathlib.Omega.{arith}
 use lib.ListN.{length}
-use Rattle.msgq.proofs.Looks.{slot-fits, slot-below, peek-past, peek-done, unseen, shown}
-use Rattle.msgq.proofs.Answers.{peek-size, handed-size}
+use Rattle.msgq.proofs.Answers.{slot-fits, slot-below, fills-size, peek-past, peek-done}
 use Rattle.msgq.proofs.Headers.{was-false, taken}
 use borrow.Author.Needs.{needs}
 use Rattle.msgq.proofs.peek_at.Statement.{statement}
@@ -13,13 +12,13 @@ sized-requires : tie.Need-sized-requires
 sized-requires c κs = search needs
 
 returns : tie.Need-returns
-returns c = let a = c .before .before .before .before .before .args in (peek-size (a .h .now) (a .b .now) (length (a .out .now)) (was-false (c .before .sized .ensures) (c .if1 .taken)) (a .idx), handed-size (a .h .now) (a .b .now) (length (a .out .now)) (was-false (c .before .sized .ensures) (c .if1 .taken)) (a .idx) (a .out .now))
+returns c = let a = c .before .before .before .before .before .args in fills-size (a .h .now) (a .b .now) (length (a .out .now)) (was-false (c .before .sized .ensures) (c .if1 .taken)) _ (a .out .now)
 
 shared-slice-read-if2 : tie.Need-shared-slice-read-if2
 shared-slice-read-if2 c = let a = c .before .before .before .before .before .before .args in let s = taken (a .h .now) (a .b .now) (length (a .out .now)) (c .before .before .sized .ensures) (c .before .if1 .left) in omega arith
 
 returns-2 : tie.Need-returns-2
-returns-2 c = let a = c .before .before .before .before .before .before .before .args in let s = taken (a .h .now) (a .b .now) (length (a .out .now)) (c .before .before .before .sized .ensures) (c .before .before .if1 .left) in (peek-past (a .h .now) (a .b .now) (s .0) (a .out .now) (a .idx) (s .1) (omega arith), unseen (a .h .now) (a .b .now) (s .0) (a .out .now) (a .idx) (s .1) (omega arith))
+returns-2 c = let a = c .before .before .before .before .before .before .before .args in let s = taken (a .h .now) (a .b .now) (length (a .out .now)) (c .before .before .before .sized .ensures) (c .before .before .if1 .left) in peek-past (a .h .now) (a .b .now) (s .0) (a .out .now) (s .1) (a .idx) (omega arith)
 
 shared-slice-read-around : tie.Need-shared-slice-read-around
 shared-slice-read-around c = let a = c .before .before .before .before .before .before .before .before .args in let s = taken (a .h .now) (a .b .now) (length (a .out .now)) (c .before .before .before .before .sized .ensures) (c .before .before .before .if1 .left) in omega arith
@@ -40,7 +39,7 @@ same-length : tie.Need-same-length
 same-length c = search needs
 
 returns-3 : tie.Need-returns-3
-returns-3 c = let a = c .before .before .before .before .before .before .before .before .before .before .before .before .before .before .before .args in let s = taken (a .h .now) (a .b .now) (length (a .out .now)) (c .before .before .before .before .before .before .before .before .before .before .before .sized .ensures) (c .before .before .before .before .before .before .before .before .before .before .if1 .left) in (peek-done (a .h .now) (a .b .now) (s .0) (a .out .now) (a .idx) (s .1) (omega arith), shown (a .h .now) (a .b .now) (s .0) (a .out .now) (a .idx) (c .before .before .before .before .wide .result) (c .before .before .load .last .1 .1 .0) (s .1) (omega arith) (c .before .before .before .before .wide .ensures ∙ c .before .before .before .before .before .around .ensures) (c .before .before .load .ensures))
+returns-3 c = let a = c .before .before .before .before .before .before .before .before .before .before .before .before .before .before .before .args in let s = taken (a .h .now) (a .b .now) (length (a .out .now)) (c .before .before .before .before .before .before .before .before .before .before .before .sized .ensures) (c .before .before .before .before .before .before .before .before .before .before .if1 .left) in peek-done (a .h .now) (a .b .now) (s .0) (a .out .now) (s .1) (a .idx) (c .before .before .before .before .wide .result) (c .before .before .load .last .1 .1 .0) (omega arith) (c .before .before .before .before .wide .ensures ∙ c .before .before .before .before .before .around .ensures) (c .before .before .load .ensures)
 
 pub peek-at-spec : {M : Type 1} → statement M
 peek-at-spec =

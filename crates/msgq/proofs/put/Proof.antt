@@ -2,8 +2,7 @@
 use mathlib.Core.Path.{_∙_}
 use native.Mathlib.Omega.{arith}
 use lib.ListN.{length, getD}
-use Rattle.msgq.proofs.Looks.{slot-fits, slot-below}
-use Rattle.msgq.proofs.Answers.{did-size, put-full, put-done}
+use Rattle.msgq.proofs.Answers.{slot-fits, slot-below, did-size, put-full, put-done}
 use Rattle.msgq.proofs.Headers.{was-false, taken}
 use borrow.Author.Needs.{needs}
 use Rattle.msgq.proofs.put.Statement.{statement}

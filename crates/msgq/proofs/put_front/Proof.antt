@@ -4,8 +4,7 @@ use Prim.Native.Nat.{_-_, _*_}
 use native.Mathlib.Omega.{arith}
 use lib.ListN.{length, getD, length-set}
 use lib.Seq.{paste}
-use Rattle.msgq.proofs.Looks.{slot-fits, slot-below}
-use Rattle.msgq.proofs.Answers.{did-size, front-full, front-done}
+use Rattle.msgq.proofs.Answers.{slot-fits, slot-below, did-size, front-full, front-done}
 use Rattle.msgq.proofs.Headers.{was-false, taken}
 use borrow.Author.Needs.{needs}
 use Rattle.msgq.proofs.put_front.Statement.{statement}

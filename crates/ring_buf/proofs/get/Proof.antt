@@ -1,13 +1,11 @@
 -- One law for each answer. Assumes nothing.
-use mathlib.Core.Path.{sym, ap, _∙_}
 use native.Mathlib.Omega.{arith}
-use lib.ListN.{getD, length-set}
+use lib.ListN.{length-set}
 use borrow.Author.Needs.{needs}
 use Rattle.ring_buf.proofs.Headers.{passed, failed}
-use Rattle.store.proofs.Laws.{did-bad, handed-bad}
-use Rattle.store.specs.Store.{first}
-use Rattle.ring_buf.specs.Bytes.{bytes, get, gotten}
-use Rattle.ring_buf.proofs.Answers.{get-empty, get-done, none-gotten, got-first}
+use Rattle.store.proofs.Laws.{hands-bad}
+use Rattle.ring_buf.specs.Bytes.{bytes, get}
+use Rattle.ring_buf.proofs.Answers.{get-empty, get-done}
 use Rattle.ring_buf.proofs.get.Statement.{statement}
 use Rattle.ring_buf.proofs.get.Tie as tie
 
@@ -18,7 +16,7 @@ same-length : tie.Need-same-length
 same-length c = search needs
 
 returns : tie.Need-returns
-returns c = let a = c .before .before .before .before .before .args in (did-bad bytes get (a .h .now) (a .b .now) (failed (a .h .now) (a .b .now) (c .before .formed .ensures) (c .if1 .taken)), sym (ap (first (a .value .now)) (handed-bad bytes (a .h .now) (a .b .now) (gotten 1) (failed (a .h .now) (a .b .now) (c .before .formed .ensures) (c .if1 .taken)))))
+returns c = let a = c .before .before .before .before .before .args in hands-bad bytes get (a .h .now) (a .b .now) (a .value .now) (failed (a .h .now) (a .b .now) (c .before .formed .ensures) (c .if1 .taken))
 
 slice-read-n : tie.Need-slice-read-n
 slice-read-n c = let a = c .before .before .before .before .before .before .args in omega (arith, passed (a .h .now) (a .b .now) (c .before .before .formed .ensures) (c .before .if1 .left))
@@ -27,7 +25,7 @@ same-length-2 : tie.Need-same-length-2
 same-length-2 c = search needs
 
 returns-2 : tie.Need-returns-2
-returns-2 c = let a = c .before .before .before .before .before .before .before .args in (get-empty (a .h .now) (a .b .now) (passed (a .h .now) (a .b .now) (c .before .before .before .formed .ensures) (c .before .before .if1 .left)) (c .if2 .taken), sym (ap (first (a .value .now)) (none-gotten (a .h .now) (a .b .now) (passed (a .h .now) (a .b .now) (c .before .before .before .formed .ensures) (c .before .before .if1 .left)) (c .if2 .taken))))
+returns-2 c = let a = c .before .before .before .before .before .before .before .args in get-empty (a .h .now) (a .b .now) (passed (a .h .now) (a .b .now) (c .before .before .before .formed .ensures) (c .before .before .if1 .left)) (a .value .now) (c .if2 .taken)
 
 slice-read-t : tie.Need-slice-read-t
 slice-read-t c = let a = c .before .before .before .before .before .before .before .before .args in omega (arith, passed (a .h .now) (a .b .now) (c .before .before .before .before .formed .ensures) (c .before .before .before .if1 .left))
@@ -59,10 +57,8 @@ same-length-3 c = search needs
 returns-3 : tie.Need-returns-3
 returns-3 c =
     let a = c .before .before .before .before .before .before .before .before .before .before .before .before .args in
-    let s = passed (a .h .now) (a .b .now) (c .before .before .before .before .before .before .before .before .formed .ensures) (c .before .before .before .before .before .before .before .if1 .left) in (
-      get-done (a .h .now) (a .b .now) s (c .step .result) (omega arith) (c .step .ensures),
-      ap (λ x. getD (a .b .now) x 0) (c .before .before .before .wide .ensures) ∙ sym (ap (first (a .value .now)) (got-first (a .h .now) (a .b .now) s (omega arith))),
-    )
+    let s = passed (a .h .now) (a .b .now) (c .before .before .before .before .before .before .before .before .formed .ensures) (c .before .before .before .before .before .before .before .if1 .left) in
+    get-done (a .h .now) (a .b .now) s (a .value .now) (c .before .before .before .wide .result) (c .step .result) (omega arith) (c .before .before .before .wide .ensures) (c .step .ensures)
 
 pub get-spec : {M : Type 1} → statement M
 get-spec =

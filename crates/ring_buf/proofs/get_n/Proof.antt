@@ -7,9 +7,9 @@ use borrow.Author.Needs.{needs}
 use Rattle.ring_buf.proofs.Rings.{wrap-below}
 use Rattle.ring_buf.proofs.Headers.{passed, failed}
 use Rattle.seq.proofs.Integers.{natural64}
-use Rattle.store.proofs.Laws.{did-bad, handed-bad}
-use Rattle.ring_buf.specs.Bytes.{bytes, getMany, gotten}
-use Rattle.ring_buf.proofs.Answers.{get-n-done, get-n-out}
+use Rattle.store.proofs.Laws.{fills-bad}
+use Rattle.ring_buf.specs.Bytes.{bytes, getMany}
+use Rattle.ring_buf.proofs.Answers.{get-n-done}
 use Rattle.ring_buf.proofs.get_n.Statement.{statement}
 use Rattle.ring_buf.proofs.get_n.Tie as tie
 
@@ -23,7 +23,7 @@ same-length : tie.Need-same-length
 same-length c = search needs
 
 returns : tie.Need-returns
-returns c = let a = c .before .before .before .before .before .before .args in (did-bad bytes (getMany (length (a .out .now))) (a .h .now) (a .b .now) (failed (a .h .now) (a .b .now) (c .before .formed .ensures) (c .if1 .taken)), rw (handed-bad bytes (a .h .now) (a .b .now) (gotten (length (a .out .now))) (failed (a .h .now) (a .b .now) (c .before .formed .ensures) (c .if1 .taken))) refl)
+returns c = let a = c .before .before .before .before .before .before .args in fills-bad bytes (getMany (length (a .out .now))) (a .h .now) (a .b .now) (a .out .now) (failed (a .h .now) (a .b .now) (c .before .formed .ensures) (c .if1 .taken))
 
 slice-read-wide : tie.Need-slice-read-wide
 slice-read-wide c = let a = c .before .before .before .before .before .before .before .args in omega (arith, passed (a .h .now) (a .b .now) (c .before .before .formed .ensures) (c .before .if1 .left))
@@ -93,10 +93,8 @@ returns-2 : tie.Need-returns-2
 returns-2 c =
     let a = c .before .before .before .before .before .before .before .before .before .before .before .before .before .before .before .before .before .before .args in
     let s = passed (a .h .now) (a .b .now) (c .before .before .before .before .before .before .before .before .before .before .before .before .before .formed .ensures) (c .before .before .before .before .before .before .before .before .before .before .before .before .if1 .left) in
-    let k = natural64 (c .before .before .before .before .before .least .result) (omega (arith, c .before .before .before .before .before .least .ensures, c .before .before .before .before .before .before .wide3 .ensures, c .before .before .before .before .before .before .before .before .before .before .before .slice-known3 .given 2)) in (
-      rw k (get-n-done (a .h .now) (a .b .now) s (c .before .before .before .before .before .before .before .before .before .before .wide .result) (c .before .before .before .before .before .before .before .before .wide2 .result) (c .before .before .before .before .before .before .wide3 .result) (length (a .out .now)) (c .before .before .before .before .before .least .result) (c .place .result) (c .before .before .before .before .before .before .before .before .before .before .wide .ensures) (c .before .before .before .before .before .before .before .before .wide2 .ensures) (c .before .before .before .before .before .before .wide3 .ensures) (c .before .before .before .before .before .least .ensures) (c .place .ensures)),
-      get-n-out (a .h .now) (a .b .now) s (c .before .before .before .before .before .before .before .before .before .before .wide .result) (c .before .before .before .before .before .before .before .before .wide2 .result) (c .before .before .before .before .before .before .wide3 .result) (a .out .now) _ (c .before .before .before .drain .last .1 .1 .1 .0) (c .before .before .before .before .before .least .result) (c .before .before .before .before .before .before .before .before .before .before .wide .ensures) (c .before .before .before .before .before .before .before .before .wide2 .ensures) (c .before .before .before .before .before .before .wide3 .ensures) (c .before .before .before .before .before .least .ensures) (c .before .before .before .drain .ensures) refl,
-    )
+    let k = natural64 (c .before .before .before .before .before .least .result) (omega (arith, c .before .before .before .before .before .least .ensures, c .before .before .before .before .before .before .wide3 .ensures, c .before .before .before .before .before .before .before .before .before .before .before .slice-known3 .given 2)) in
+    rw k (get-n-done (a .h .now) (a .b .now) s (c .before .before .before .before .before .before .before .before .before .before .wide .result) (c .before .before .before .before .before .before .before .before .wide2 .result) (c .before .before .before .before .before .before .wide3 .result) (a .out .now) _ (c .before .before .before .drain .last .1 .1 .1 .0) (c .before .before .before .before .before .least .result) (c .place .result) (c .before .before .before .before .before .before .before .before .before .before .wide .ensures) (c .before .before .before .before .before .before .before .before .wide2 .ensures) (c .before .before .before .before .before .before .wide3 .ensures) (c .before .before .before .before .before .least .ensures) (c .place .ensures) (c .before .before .before .drain .ensures) refl)
 
 pub get-n-spec : {M : Type 1} → statement M
 get-n-spec =

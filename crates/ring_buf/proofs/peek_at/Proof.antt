@@ -1,5 +1,5 @@
 -- One law for each answer. Assumes nothing.
-use mathlib.Core.Path.{_≡_, sym, ap}
+use mathlib.Core.Path.{_≡_}
 use Prim.Native.Nat.{_+_}
 use native.Mathlib.Omega.{arith}
 use lib.ListN.{getD}
@@ -7,10 +7,9 @@ use borrow.Author.Needs.{needs}
 use Rattle.ring_buf.specs.Ring.{wrap}
 use Rattle.ring_buf.proofs.Rings.{wrap-below}
 use Rattle.ring_buf.proofs.Headers.{passed, failed}
-use Rattle.store.proofs.Laws.{looks-bad, handed-bad}
-use Rattle.store.specs.Store.{first, answer}
-use Rattle.ring_buf.specs.Bytes.{bytes, peek, seen}
-use Rattle.ring_buf.proofs.Answers.{peek-past, peek-ok, none-seen, seen-is}
+use Rattle.store.proofs.Laws.{hands-bad}
+use Rattle.ring_buf.specs.Bytes.{bytes, peek}
+use Rattle.ring_buf.proofs.Answers.{peek-past, peek-done}
 use Rattle.ring_buf.proofs.peek_at.Statement.{statement}
 use Rattle.ring_buf.proofs.peek_at.Tie as tie
 
@@ -18,13 +17,13 @@ formed-requires : tie.Need-formed-requires
 formed-requires c κs = search needs
 
 returns : tie.Need-returns
-returns c = let a = c .before .before .before .before .args in (sym (looks-bad bytes (a .h .now) (a .b .now) (λ r. answer (peek (a .idx) r)) (failed (a .h .now) (a .b .now) (c .before .formed .ensures) (c .if1 .taken))), sym (ap (first (a .value .now)) (handed-bad bytes (a .h .now) (a .b .now) (seen (a .idx)) (failed (a .h .now) (a .b .now) (c .before .formed .ensures) (c .if1 .taken)))))
+returns c = let a = c .before .before .before .before .args in hands-bad bytes (peek (a .idx)) (a .h .now) (a .b .now) (a .value .now) (failed (a .h .now) (a .b .now) (c .before .formed .ensures) (c .if1 .taken))
 
 shared-slice-read-if2 : tie.Need-shared-slice-read-if2
 shared-slice-read-if2 c = let a = c .before .before .before .before .before .args in omega (arith, passed (a .h .now) (a .b .now) (c .before .before .formed .ensures) (c .before .if1 .left))
 
 returns-2 : tie.Need-returns-2
-returns-2 c = let a = c .before .before .before .before .before .before .args in (sym (peek-past (a .h .now) (a .b .now) (passed (a .h .now) (a .b .now) (c .before .before .before .formed .ensures) (c .before .before .if1 .left)) (a .idx) (omega arith)), sym (ap (first (a .value .now)) (none-seen (a .h .now) (a .b .now) (passed (a .h .now) (a .b .now) (c .before .before .before .formed .ensures) (c .before .before .if1 .left)) (a .idx) (omega arith))))
+returns-2 c = let a = c .before .before .before .before .before .before .args in peek-past (a .h .now) (a .b .now) (passed (a .h .now) (a .b .now) (c .before .before .before .formed .ensures) (c .before .before .if1 .left)) (a .value .now) (a .idx) (omega arith)
 
 shared-slice-read-wide : tie.Need-shared-slice-read-wide
 shared-slice-read-wide c = let a = c .before .before .before .before .before .before .before .args in omega (arith, passed (a .h .now) (a .b .now) (c .before .before .before .before .formed .ensures) (c .before .before .before .if1 .left))
@@ -58,10 +57,8 @@ shared-slice-read-value c =
 returns-3 : tie.Need-returns-3
 returns-3 c =
     let a = c .before .before .before .before .before .before .before .before .before .before .before .before .before .args in
-    let s = passed (a .h .now) (a .b .now) (c .before .before .before .before .before .before .before .before .before .before .formed .ensures) (c .before .before .before .before .before .before .before .before .before .if1 .left) in (
-      sym (peek-ok (a .h .now) (a .b .now) s (a .idx) (omega arith)),
-      sym (ap (first (a .value .now)) (seen-is (a .h .now) (a .b .now) s (a .idx) (c .before .place .result) (omega arith) (cc))),
-    )
+    let s = passed (a .h .now) (a .b .now) (c .before .before .before .before .before .before .before .before .before .before .formed .ensures) (c .before .before .before .before .before .before .before .before .before .if1 .left) in
+    peek-done (a .h .now) (a .b .now) s (a .value .now) (a .idx) (c .before .place .result) (omega arith) cc
 
 pub peek-at-spec : {M : Type 1} → statement M
 peek-at-spec =
