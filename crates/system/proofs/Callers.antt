@@ -165,7 +165,8 @@ module _ {A K : Kind} (law : Lawful K) (P : Part A K) (fits : Fits P) (L : Layou
           let w = handed-out s g i o (P .call k) (P .num n) (is .slot) m c whole in
           let c : length (out (call A v (named j) k ob)) ≤ length (u .lent) =
           omega (arith, l, at-most, ap length (sym e ∙ w), length-map (called s i o (P .call k) .2) word) in
-          as-named ∙ ap (wrapped (P .num)) (rw (le-leb (length (out (call A v (named j) k ob))) (length (u .lent)) c) refl)
+          let z : call A v (named j) k ob ≡ fitting (length (u .lent)) (call A v (named j) k) ob = rw (le-leb (length (out (call A v (named j) k ob))) (length (u .lent)) c) refl in
+          as-named ∙ ap (wrapped (P .num)) z
 
       pub by-slice : m (length q) ≤ length (u .lent)
           → Fills (standing L) (fitting (length (u .lent)) (call A v (named j) k)) (u .before .header) (u .before .entries) (u .lent) (u .answer) (u .after .header) (u .filled)

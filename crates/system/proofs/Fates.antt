@@ -9,6 +9,7 @@ use lib.ListN.{length}
 use Rattle.kind.specs.Verdict.{gone, keep, park, wake, Verdict, deny, allow}
 use Rattle.kind.specs.Kind.{Kind}
 use Rattle.store.specs.Store as store
+use Rattle.store.proofs.Laws.{carry-answer}
 use Rattle.kind.specs.Object.{Object, thread, carried}
 use Rattle.system.specs.System as system
 use Rattle.system.specs.Rules.{times, Fine}
@@ -83,7 +84,8 @@ module _ {K : Kind} (s : Sys K) (g : Fine s) (i o : ℕ) (k : K .Call) (n : K .N
   told-fate run (allow m keep (pos r)) x = sym (x o (s .state i))
   told-fate run (allow m keep (negsuc r)) x = refl
   told-fate run (allow m (park y) r) x =
-      parked-fate a o (entry (s .prio i) i) (s .queue o) (s .state i) (upd (s .state) i (waiting o) i) x (rw (eq-eqb i i refl))
+      subst (λ (z : ℤ). unless z (s .state i) (upd (s .state) i (waiting o) i) ≡ fate a o z (s .state i)) (sym (carry-answer _ (parked (entry (s .prio i) i) (s .queue o))))
+      (parked-fate a o (entry (s .prio i) i) (s .queue o) (s .state i) (upd (s .state) i (waiting o) i) x (rw (eq-eqb i i refl)))
   told-fate run (allow m (wake p f) (pos r)) x =
       let z : times i (s .queue o) ≡ 0 = g .placed o i ∙ rw run refl in
       rw (not-held i (gone ident p (s .queue o)) (omega (arith, z, times-pick i p (s .queue o)))) (sym (x o (s .state i)))

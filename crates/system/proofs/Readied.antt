@@ -13,7 +13,7 @@ use Rattle.wait_queue.specs.Queue.{ident, holds}
 use Rattle.store.specs.Store as store
 use Rattle.kind.specs.Verdict.{Pick, gone, keep, park, wake, Verdict, deny, allow}
 use Rattle.kind.specs.Kind.{Kind}
-use Rattle.system.specs.System.{ready, Slot, object, Sys, Woken, deed, woken, unless, serve, outcome, verdict, visited, called, running}
+use Rattle.system.specs.System.{ready, Slot, object, Sys, Woken, deed, woken, unless, serve, thing, outcome, verdict, visited, called, running}
 use Rattle.system.specs.Link.{read, word, Readies}
 use Rattle.store.specs.Store.{first}
 
@@ -32,7 +32,7 @@ module _ {K : Kind} (s : Sys K) (i o : ℕ) (k : K .Call) (n : K .Num) (h : s .s
       subst (λ (y : Slot (K .Num)). Readies s i (visited y s i o k .2) (visited y s i o k .0)) (sym h) (go (store.answer (outcome s i o k n)) (verdict s i o k n))
     where
       roused : (m : K .Num) (p : Pick) (f : ℕ → ℤ) (r : ℤ) (y : List ℕ) → ((t : ℕ) → holds t y ≡ true → holds t (gone ident p q) ≡ true)
-          → All (λ (w : Woken). serve s i o (allow m (wake p f) r) (outcome s i o k n) .state (w .thread) ≡ ready (w .result))
+          → All (λ (w : Woken). serve s i o (allow m (wake p f) r) (store.left (outcome s i o k n) (thing s o n)) .state (w .thread) ≡ ready (w .result))
           (map (λ x. record { thread = ident x; result = f (ident x) }) y)
       roused m p f r [] a = tt
       roused m p f r (x ∷ y) a =
@@ -43,7 +43,7 @@ module _ {K : Kind} (s : Sys K) (i o : ℕ) (k : K .Call) (n : K .Num) (h : s .s
           by true t z = refl
           by false t z = z
 
-      go : (z : ℤ) (d : Verdict (K .Num) (K .Wish)) → Readies s i (unless z [] (woken (deed d) q)) (unless z s (serve s i o d (outcome s i o k n)))
+      go : (z : ℤ) (d : Verdict (K .Num) (K .Wish)) → Readies s i (unless z [] (woken (deed d) q)) (unless z s (serve s i o d (store.left (outcome s i o k n) (thing s o n))))
       go (negsuc c) d = record { ready = tt; others = λ t a x. refl }
       go (pos c) (deny r) = record { ready = tt; others = λ t a x. refl }
       go (pos c) (allow m keep r) = record { ready = tt; others = λ t a x. refl }

@@ -65,17 +65,21 @@ module _ (A B : Member) (a : Lawful (A .kind)) (b : Lawful (B .kind)) where
       → Booked ((A ⊕ B) .kind) (inl n) q w (inl k) (mapped inl inl d)
   booked-left n q w k (deny (pos r)) s = s
   booked-left n q w k (deny (negsuc r)) s = tt
-  booked-left n q w k (allow m keep r) s = ap (balance inl) s
+  booked-left n q w k (allow m keep (pos r)) s = ap (balance inl) s
+  booked-left n q w k (allow m keep (negsuc r)) s = s
   booked-left n q w k (allow m (park x) r) s = ap (balance inl) s
-  booked-left n q w k (allow m (wake p f) r) s = ap (balance inl) s
+  booked-left n q w k (allow m (wake p f) (pos r)) s = ap (balance inl) s
+  booked-left n q w k (allow m (wake p f) (negsuc r)) s = s
 
   booked-right : (n : B .kind .Num) (q : List ℕ) (w : ℕ) (k : B .kind .Call) (d : Verdict (B .kind .Num) (B .kind .Wish)) → Booked (B .kind) n q w k d
       → Booked ((A ⊕ B) .kind) (inr n) q w (inr k) (mapped inr inr d)
   booked-right n q w k (deny (pos r)) s = s
   booked-right n q w k (deny (negsuc r)) s = tt
-  booked-right n q w k (allow m keep r) s = ap (balance inr) s
+  booked-right n q w k (allow m keep (pos r)) s = ap (balance inr) s
+  booked-right n q w k (allow m keep (negsuc r)) s = s
   booked-right n q w k (allow m (park x) r) s = ap (balance inr) s
-  booked-right n q w k (allow m (wake p f) r) s = ap (balance inr) s
+  booked-right n q w k (allow m (wake p f) (pos r)) s = ap (balance inr) s
+  booked-right n q w k (allow m (wake p f) (negsuc r)) s = s
 
   booked : (n : A .kind .Num ⊎ B .kind .Num) (v : ℕ → A .kind .Wish ⊎ B .kind .Wish) (q : List ℕ) (w : ℕ) (k : A .kind .Call ⊎ B .kind .Call)
       → (A ⊕ B) .kind .formed n (any q) ≡ true → Booked ((A ⊕ B) .kind) n q w k ((A ⊕ B) .kind .decide n v q w k)

@@ -12,7 +12,7 @@ use Rattle.seq.proofs.Order.{clash, cond-same, all-map}
 use Rattle.wait_queue.specs.Queue.{prio, ident, holds, joined, without, Single}
 use Rattle.wait_queue.proofs.Well.{Other, holds-none}
 use Rattle.kind.specs.Kind.{Distinct}
-use Rattle.kind.specs.Verdict.{Pick, upTo, everybody, those, gone, left}
+use Rattle.kind.specs.Verdict.{Pick, upTo, everybody, those, gone, spared}
 use Rattle.system.specs.System.{State, absent, running, ready, waiting, upd}
 use Rattle.system.specs.Rules.{times, on}
 

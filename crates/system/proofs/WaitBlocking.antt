@@ -7,7 +7,7 @@ use lib.IntN.{ℤ, pos, negsuc}
 use lib.ListN.{take}
 use borrow.Author.Tests.{ne-eqb}
 use Rattle.wait_queue.specs.Turn.{waits}
-use Rattle.store.specs.Store.{answer, out, reply as replied, Did, first, Refused, Allowed}
+use Rattle.store.specs.Store.{answer, reply as replied, Did, Hands, Refused, Allowed}
 use Rattle.kind.specs.Kind.{Kind, Lawful}
 use Rattle.kind.specs.Object.{Layout}
 use Rattle.mutex.specs.Mutex as mutex
@@ -81,15 +81,13 @@ module _ {K : Kind} (law : Lawful K) (P : Part mutex-kind K) (fits : Fits P) (C 
       told = sym said ∙ z
 
       does : Did condition.place (condition.waitOut i (s .prio i) (number (s .state i))) (c .header) (c .entries) waits (c' .header) (c' .entries)
-          × Did lock.place (releaseOut i (s .prio i) (number (s .state i))) h e (u .answer) (u .after .header) e
-          × (d .who' ≡ first (d .who) (out (replied lock.place (releaseOut i (s .prio i) (number (s .state i))) h e)))
+          × Hands lock.place (releaseOut i (s .prio i) (number (s .state i))) h e (d .who) (u .answer) (u .after .header) (d .who')
       does =
           subst
           (λ (r : ℤ).
           Allowed r
           (Did condition.place (condition.waitOut i (s .prio i) (number (s .state i))) (c .header) (c .entries) waits (c' .header) (c' .entries)
-          × Did lock.place (releaseOut i (s .prio i) (number (s .state i))) h e (u .answer) (u .after .header) e
-          × (d .who' ≡ first (d .who) (out (replied lock.place (releaseOut i (s .prio i) (number (s .state i))) h e)))))
+          × Hands lock.place (releaseOut i (s .prio i) (number (s .state i))) h e (d .who) (u .answer) (u .after .header) (d .who')))
           z (waited .both)
 
       by : (v : ℤ) → answer (replied lock.place (releaseOut i (s .prio i) (number (s .state i))) h e) ≡ v → Goal
@@ -104,28 +102,28 @@ module _ {K : Kind} (law : Lawful K) (P : Part mutex-kind K) (fits : Fits P) (C 
           let q' = c' .header in
           let l' = c' .entries in
           let hand : Handed (called s i a j .2 ++ called (called s i a j .0) i b k .2) (u .lent) (u .filled) =
-          hands law P fits C fitting s g i a b off h e q l x y n told v f (u .answer) q' l' m (does .1) (does .0) (d .who) (d .who') (u .lent) (u .filled)
-          (d .lent) (d .filled) (does .2) in
+          hands law P fits C fitting s g i a b off h e q l x y n told v f (u .answer) q' l' m (does .1 .0) (does .0) (d .who) (d .who') (u .lent) (u .filled)
+          (d .lent) (d .filled) (does .1 .1) in
           record {
             code = rw (ne-eqb a b off) (ap reply said);
             first =
                 rw (ne-eqb a b off, told)
                 (subst (λ (z : List ℕ). Is lock.layout (P .num) (called (called s i a j .0) i b k .0) a (u .after .header) z) (sym (d .entries))
-                (first-is law P fits C fitting s g i a b off h e q l x y n told v f (u .answer) q' l' m (does .1) (does .0)));
-            second = rw (ne-eqb a b off, told) (second-is law P fits C fitting s g i a b off h e q l x y n told v f (u .answer) q' l' m (does .1) (does .0));
+                (first-is law P fits C fitting s g i a b off h e q l x y n told v f (u .answer) q' l' m (does .1 .0) (does .0)));
+            second = rw (ne-eqb a b off, told) (second-is law P fits C fitting s g i a b off h e q l x y n told v f (u .answer) q' l' m (does .1 .0) (does .0));
             handed = rw (ne-eqb a b off, told) hand;
             reads =
                 rw (ne-eqb a b off, told)
                 (ap (map read)
                 (read-all (called s i a j .2 ++ called (called s i a j .0) i b k .2) (heard (onlyAt 2) (u .answer)) (u .lent) (u .filled) hand
-                (count law P fits C fitting s g i a b off h e q l x y n told v f (u .answer) q' l' m (does .1) (does .0) ∙ ap (heard (onlyAt 2))
-                (sym (does .1 .code))))
-                ∙ reads-both law P fits C fitting s g i a b off h e q l x y n told v f (u .answer) q' l' m (does .1) (does .0));
+                (count law P fits C fitting s g i a b off h e q l x y n told v f (u .answer) q' l' m (does .1 .0) (does .0) ∙ ap (heard (onlyAt 2))
+                (sym (does .1 .0 .code))))
+                ∙ reads-both law P fits C fitting s g i a b off h e q l x y n told v f (u .answer) q' l' m (does .1 .0) (does .0));
             caller =
                 rw (ne-eqb a b off, told)
-                (last law P fits C fitting s g i a b off h e q l x y n told v f (u .answer) q' l' m (does .1) (does .0) ∙ ap
+                (last law P fits C fitting s g i a b off h e q l x y n told v f (u .answer) q' l' m (does .1 .0) (does .0) ∙ ap
                 (λ (r : ℤ). settle b r (s .state i)) (sym z));
-            readies = rw (ne-eqb a b off, told) (ready-both law P fits C fitting s g i a b off h e q l x y n told v f (u .answer) q' l' m (does .1) (does .0));
+            readies = rw (ne-eqb a b off, told) (ready-both law P fits C fitting s g i a b off h e q l x y n told v f (u .answer) q' l' m (does .1 .0) (does .0));
           }
 
 pub wait-links : {K : Kind} → Lawful K → (P : Part mutex-kind K) → Fits P → (C : Part condvar-kind K) → Fits C

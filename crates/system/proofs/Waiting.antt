@@ -8,7 +8,8 @@ use lib.IntN.{ℤ, pos, negsuc}
 use lib.ListN.{length}
 use Rattle.thread.specs.Code.{edeadlk}
 use Rattle.thread.specs.Caller.{callerCode}
-use Rattle.store.specs.Store.{Reply, refuse, answer, out, reply, Did, first}
+use Rattle.store.specs.Store as store
+use Rattle.store.specs.Store.{Reply, refuse, answer, reply, Did, first}
 use Rattle.wait_queue.specs.Queue.{ident}
 use Rattle.wait_queue.specs.Turn.{waits}
 use Rattle.kind.specs.Verdict.{keep, park, wake, Verdict, deny, allow}
@@ -150,7 +151,7 @@ module _ {K : Kind} (law : Lawful K) (P : Part mutex-kind K) (fits : Fits P) (C 
     pub second-is : Is condition.layout (C .num) end b h' e'
     second-is = leaves law condition.layout (C .num) mid fine-mid i b await (condition.waitOut i p st) h e y-mid (second-same k z) waits h' e' two
 
-    pub hands : (w w' : ℕ) (out out' : List ℕ) → out ≡ w ∷ [] → out' ≡ w' ∷ [] → w' ≡ first w (out given)
+    pub hands : (w w' : ℕ) (out out' : List ℕ) → out ≡ w ∷ [] → out' ≡ w' ∷ [] → w' ≡ first w (store.out given)
         → Handed (called s i a release .2 ++ called mid i b await .2) out out'
     hands w w' out out' v v' t =
         in-word (called s i a release .2 ++ called mid i b await .2) w w' out out' v v'

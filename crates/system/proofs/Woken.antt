@@ -1,5 +1,5 @@
 -- The words that a call hands out are those of the threads that the step wakes, as many as its answer says. Assumes nothing.
-use mathlib.Core.Path.{_≡_, refl, sym, subst, _∙_}
+use mathlib.Core.Path.{_≡_, refl, sym, ap, subst, _∙_}
 use mathlib.Core.Bool.{Bool, true, false, cond}
 use mathlib.Core.List.{List, [], _∷_, map}
 use Prim.Native.Nat.{ℕ, _≤_}
@@ -18,6 +18,7 @@ use Rattle.wait_queue.proofs.Insertion.{prio-entry}
 use Rattle.kind.specs.Verdict.{gone, keep, park, wake, Verdict, deny, allow}
 use Rattle.kind.specs.Kind.{Kind}
 use Rattle.store.specs.Store as store
+use Rattle.store.proofs.Laws.{carry-out, carry-answer}
 use Rattle.kind.specs.Object.{Object, thread, carried}
 use Rattle.system.specs.Sum.{mapped}
 use Rattle.system.specs.System.{number, Slot, object, Sys, Woken, deed, woken, unless, thing, outcome, verdict, visited, called}
@@ -104,7 +105,8 @@ module _ {K : Kind} (s : Sys K) (g : Fine s) (i o : ℕ) (k : K .Call) (n : K .N
     told : (d : Verdict (K .Num) (K .Wish)) → Within m c q d → store.out (given d) ≡ map word (awake (store.answer (given d)) d)
     told (deny r) x = rw (unless-none r) refl
     told (allow a keep r) x = rw (unless-none r) refl
-    told (allow a (park y) r) x = parked-none (entry (s .prio i) i) q ∙ rw (unless-none (store.answer (parked (entry (s .prio i) i) q))) refl
+    told (allow a (park y) r) x =
+        carry-out _ (parked (entry (s .prio i) i) q) ∙ parked-none (entry (s .prio i) i) q ∙ rw (unless-none (store.answer (given (allow a (park y) r)))) refl
     told (allow a (wake p f) (pos r)) x = words f (gone ident p q)
     told (allow a (wake p f) (negsuc r)) x = absurd x
 
@@ -121,7 +123,9 @@ module _ {K : Kind} (s : Sys K) (g : Fine s) (i o : ℕ) (k : K .Call) (n : K .N
     counted : (d : Verdict (K .Num) (K .Wish)) → Within m c q d → length (awake (store.answer (given d)) d) ≡ heard c (store.answer (given d))
     counted (deny r) x = rw (unless-none r) (sym x)
     counted (allow a keep r) x = rw (unless-none r) (sym x)
-    counted (allow a (park y) r) x = rw (unless-none (store.answer (parked (entry (s .prio i) i) q))) (sym (parked-heard c (entry (s .prio i) i) q x))
+    counted (allow a (park y) r) x =
+        rw (unless-none (store.answer (given (allow a (park y) r))))
+        (sym (ap (heard c) (carry-answer _ (parked (entry (s .prio i) i) q)) ∙ parked-heard c (entry (s .prio i) i) q x))
     counted (allow a (wake p f) (pos r)) x = length-map (gone ident p q) _ ∙ x .1
     counted (allow a (wake p f) (negsuc r)) x = absurd x
 

@@ -8,6 +8,7 @@ use native.Mathlib.Omega.{arith}
 use lib.IntN.{pos}
 use borrow.Author.Tests.{ne-eqb}
 use Rattle.thread.specs.Code.{ok}
+use Rattle.store.proofs.Laws.{no-code}
 use Rattle.wait_queue.specs.Queue.{maxWaiters, entry}
 use Rattle.sem.specs.Sem as sem
 use Rattle.system.specs.System.{absent, running, ready, vacant, Sys, invoke, dispatch, spawn, create, done, upd}
@@ -104,7 +105,13 @@ ran =
     (then (then (then begun (moves (spawn 1 0) tt) (same empty)) (moves (spawn 7 5) tt) (same empty)) (moves (dispatch 1) tt) (same empty))
     (moves (dispatch 7) tt) (same empty))
     (inits 0 (record { count = 0; limit = 2 }) (pos 0) refl (omega arith) (omega arith) (omega arith)
-    (record { code = refl; made = λ e. (refl, λ e. refl); kept = tt; beside = refl; long = refl }) refl)
+    (record {
+      with = λ e g. record {
+        code = refl;
+        made = λ z. record { formed = g; object = refl; beside = refl; rest = refl; long = (refl, refl) };
+        kept = λ n z. no-code z;
+      };
+    }) refl)
     (elsewhere empty (words 2 0 (zeros 64))))
     (calls 7 0 (aSem (record { count = 0; limit = 2 })) takeBlocking takes refl refl refl
     (record {
@@ -114,7 +121,7 @@ ran =
       room = omega arith;
     })
     (record {
-      does = record { code = refl; num = refl; queue = refl; kept = tt; beside = refl; rest = refl; long = (refl, refl) };
+      does = record { code = refl; after = record { formed = refl; object = refl; beside = refl; rest = refl; long = (refl, refl) } };
       lent = refl;
       filled = refl;
     }))
@@ -124,7 +131,7 @@ ran =
     (record {
       who = 99;
       who' = 7;
-      does = (record { code = refl; num = refl; queue = refl; kept = tt; beside = refl; rest = refl; long = (refl, refl) }, refl);
+      does = (record { code = refl; after = record { formed = refl; object = refl; beside = refl; rest = refl; long = (refl, refl) } }, refl);
       entries = refl;
       lent = refl;
       filled = refl;
