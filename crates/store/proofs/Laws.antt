@@ -10,7 +10,7 @@ use lib.ListN.{length}
 use Rattle.seq.specs.List.{any}
 pub use Rattle.seq.proofs.Order.{both-true}
 use Rattle.thread.specs.Code.{ok, einval}
-use Rattle.store.specs.Store.{Reply, refuse, accept, answer, out, Decided, Place, reply, Becomes, After, Did, looks, Filled, first, Fills, Hands, Started}
+use Rattle.store.specs.Store.{Reply, refuse, accept, answer, out, carry, Decided, Place, reply, Becomes, After, Did, looks, Filled, first, Fills, Hands, Started}
 
 pub any-some : {A : Type 0} (l : List A) → 0 < length l → any l ≡ true
 any-some [] f = absurd (omega arith)
@@ -33,13 +33,24 @@ module _ {S : Type 0} (P : Place S) (f : S → Reply S) (h b : List ℕ) where
   pub replies-bad : P .formed h b ≡ false → reply P f h b ≡ refuse einval
   replies-bad e = rw e
 
+  -- a refusal
+  module _ {c : ℤ} (y : reply P f h b ≡ refuse c) where
+    pub refuses : Did P f h b c h b
+    refuses = did (refuse c) h b y (refl, refl)
+
+    pub refuses-place : (o : List ℕ) → Fills P f h b o c h o
+    refuses-place o = (refuses, rw y refl)
+
+    pub refuses-word : (x : ℕ) → Hands P f h b x c h x
+    refuses-word x = (refuses, rw y refl)
+
   -- a malformed object
   pub did-bad : P .formed h b ≡ false → Did P f h b einval h b
-  did-bad e = did (refuse einval) h b (replies-bad e) (refl, refl)
+  did-bad e = refuses (replies-bad e)
 
   -- a refusal of the operation
   pub did-no : {c : ℤ} → P .formed h b ≡ true → f (P .object h b) ≡ refuse c → Did P f h b c h b
-  did-no {c} e o = did (refuse c) h b (replies e ∙ o) (refl, refl)
+  did-no e o = refuses (replies e ∙ o)
 
   -- it was done
   pub did-yes : {s : S} {r : ℤ} {l : List ℕ} {h' b' : List ℕ} → P .formed h b ≡ true → f (P .object h b) ≡ accept s r l → Becomes P s h b h' b'
@@ -55,10 +66,10 @@ module _ {S : Type 0} (P : Place S) (f : S → Reply S) (h b : List ℕ) where
 
   module _ (o : List ℕ) where
     pub fills-bad : P .formed h b ≡ false → Fills P f h b o einval h o
-    fills-bad e = (did-bad e, rw (handed-bad e) refl)
+    fills-bad e = refuses-place (replies-bad e) o
 
     pub fills-no : {c : ℤ} → P .formed h b ≡ true → f (P .object h b) ≡ refuse c → Fills P f h b o c h o
-    fills-no e y = (did-no e y, rw (replies e, y) refl)
+    fills-no e y = refuses-place (replies e ∙ y) o
 
     pub fills-yes : {s : S} {r : ℤ} {l : List ℕ} {h' o' : List ℕ} → P .formed h b ≡ true → f (P .object h b) ≡ accept s r l → Becomes P s h b h' b
         → Filled l o o' → Fills P f h b o r h' o'
@@ -66,10 +77,10 @@ module _ {S : Type 0} (P : Place S) (f : S → Reply S) (h b : List ℕ) where
 
   module _ (x : ℕ) where
     pub hands-bad : P .formed h b ≡ false → Hands P f h b x einval h x
-    hands-bad e = (did-bad e, rw (handed-bad e) refl)
+    hands-bad e = refuses-word (replies-bad e) x
 
     pub hands-no : {c : ℤ} → P .formed h b ≡ true → f (P .object h b) ≡ refuse c → Hands P f h b x c h x
-    hands-no e y = (did-no e y, rw (replies e, y) refl)
+    hands-no e y = refuses-word (replies e ∙ y) x
 
     pub hands-yes : {s : S} {r : ℤ} {l : List ℕ} {h' : List ℕ} → P .formed h b ≡ true → f (P .object h b) ≡ accept s r l → Becomes P s h b h' b
         → Hands P f h b x r h' (first x l)
@@ -77,14 +88,17 @@ module _ {S : Type 0} (P : Place S) (f : S → Reply S) (h b : List ℕ) where
 
   module _ {r : ℤ} {h' b' : List ℕ} (d : Did P f h b r h' b') where
     -- what a caller knows of an operation that was done
+    pub became-so : {s : S} {a : ℤ} {l : List ℕ} → reply P f h b ≡ accept s a l → (r ≡ a) × Becomes P s h b h' b'
+    became-so y = (d .code ∙ ap answer y, subst (λ (x : Reply S). After P x h b h' b') y (d .after))
+
     pub became : {s : S} {a : ℤ} {l : List ℕ} → P .formed h b ≡ true → f (P .object h b) ≡ accept s a l → Becomes P s h b h' b'
-    became e o = subst (λ (x : Reply S). After P x h b h' b') (replies e ∙ o) (d .after)
+    became e o = became-so (replies e ∙ o) .1
 
     pub answers : P .formed h b ≡ true → r ≡ answer (f (P .object h b))
     answers e = d .code ∙ ap answer (replies e)
 
     -- what it knows of one that was refused
-    kept : {c : ℤ} → reply P f h b ≡ refuse c → (r ≡ c) × (h' ≡ h) × (b' ≡ b)
+    pub kept : {c : ℤ} → reply P f h b ≡ refuse c → (r ≡ c) × (h' ≡ h) × (b' ≡ b)
     kept e = let a = subst (λ (x : Reply S). After P x h b h' b') e (d .after) in (d .code ∙ ap answer e, a .0, a .1)
 
     pub kept-bad : P .formed h b ≡ false → (r ≡ einval) × (h' ≡ h) × (b' ≡ b)
@@ -92,6 +106,16 @@ module _ {S : Type 0} (P : Place S) (f : S → Reply S) (h b : List ℕ) where
 
     pub kept-no : {c : ℤ} → P .formed h b ≡ true → f (P .object h b) ≡ refuse c → (r ≡ c) × (h' ≡ h) × (b' ≡ b)
     kept-no e o = kept (replies e ∙ o)
+
+-- what is carried over hands out the same
+pub carry-out : {N S : Type 0} (f : N → S) (y : Reply N) → out (carry f y) ≡ out y
+carry-out f (refuse r) = refl
+carry-out f (accept n r o) = refl
+
+-- operations with the same reply do the same
+pub did-alike : {S : Type 0} (P : Place S) (f g : S → Reply S) (h b : List ℕ) {r : ℤ} {h' b' : List ℕ} → reply P f h b ≡ reply P g h b → Did P f h b r h' b'
+    → Did P g h b r h' b'
+did-alike {S} P f g h b {h' = h'} {b' = b'} o d = record { code = d .code ∙ ap answer o; after = subst (λ (y : Reply S). After P y h b h' b') o (d .after) }
 
 -- what is decided on plain numbers, or declined
 module _ {d : Reply ℕ} {a : ℤ} where

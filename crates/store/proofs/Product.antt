@@ -10,7 +10,7 @@ use lib.Seq.{getD-set-same, set-getD, drop-set-lt}
 use borrow.Author.Tests.{le-leb}
 use Rattle.thread.specs.Code.{einval}
 use Rattle.store.specs.Store.{Reply, refuse, accept, answer, carry, Place, reply, After, Did}
-use Rattle.store.specs.Product.{_⊗_, behind}
+use Rattle.store.specs.Product.{_⊗_, behind, shaped}
 
 -- Q was lent the word k of the header h
 module _ {T : Type 0} (Q : Place T) (k : ℕ) (g : T → Reply T) (h b : List ℕ) (l : k < length h) where
@@ -40,6 +40,30 @@ module _ {T : Type 0} (Q : Place T) (k : ℕ) (g : T → Reply T) (h b : List �
             rest = subst (λ (x : ℕ). drop (Q .size (x ∷ [])) b' ≡ drop (Q .size (x ∷ [])) b) (sym it) (a .rest);
             long = (length-set h k m, a .long .1);
           }
+
+-- what is said of a place in other words
+module _ {S T : Type 0} (F : S → T) (P : Place S) (f : S → Reply S) (g : T → Reply T) (h b : List ℕ) {r : ℤ} {h' b' : List ℕ} where
+  pub reshaped : (P .formed h b ≡ true → g (F (P .object h b)) ≡ carry F (f (P .object h b))) → Did P f h b r h' b' → Did (shaped F P) g h b r h' b'
+  reshaped y d =
+      record {
+        code = d .code ∙ same (reply P f h b) ∙ ap answer (sym is);
+        after = subst (λ (u : Reply T). After (shaped F P) u h b h' b') (sym is) (lifted (reply P f h b) (d .after));
+      }
+    where
+      same : (u : Reply S) → answer u ≡ answer (carry F u)
+      same (refuse c) = refl
+      same (accept s c o) = refl
+
+      is : reply (shaped F P) g h b ≡ carry F (reply P f h b)
+      is = go (P .formed h b) refl
+        where
+          go : (c : Bool) → P .formed h b ≡ c → cond (P .formed h b) (g (F (P .object h b))) (refuse einval) ≡ carry F (cond (P .formed h b) (f (P .object h b)) (refuse einval))
+          go true q = rw q (y q)
+          go false q = rw q
+
+      lifted : (u : Reply S) → After P u h b h' b' → After (shaped F P) (carry F u) h b h' b'
+      lifted (refuse c) a = a
+      lifted (accept s c o) a = record { formed = a .formed; object = ap F (a .object); beside = a .beside; rest = a .rest; long = a .long }
 
 -- what the second does, done to both
 abbrev pub withFirst : {S T : Type 0} → S → Reply T → Reply (S × T)
