@@ -14,11 +14,10 @@ use Rattle.store.specs.Store.{accept, answer, Did, looks, left}
 use Rattle.store.specs.History.{Step, Made}
 use Rattle.store.proofs.Laws.{looks-is, looks-bad, answers}
 use Rattle.store.proofs.Histories.{done as after}
-use Rattle.ring_buf.specs.Ring.{append, leave}
 use Rattle.ring_buf.proofs.Answers.{held-is, spare-is}
-use Rattle.pipe.specs.Pipe.{Pipe, Verdict, never, later, move, done, holding, toWrite, toRead, write, read, reset, close}
+use Rattle.pipe.specs.Pipe.{Pipe, Verdict, never, later, move, goesIn, comesOut, toWrite, toRead, write, read, reset, close}
 use Rattle.pipe.specs.Post.{Starts, Writes, Reads, Resets, Closes, ClearsReset, GetsSpace, GetsData, GetsSize, SaysEmpty, SaysFull, SaysOpen, SaysResetting, WriteDecided, ReadDecided, formed, object, layout, size as sizeOf, data-held, space, isEmpty, isFull, flag, goes, proper}
-use Rattle.pipe.specs.History.{Call, writes as writesCall, reads as readsCall, resets, closes, clears, does, gives}
+use Rattle.pipe.specs.History.{Call, writes as writesCall, reads as readsCall, resets, closes, clears, does}
 use Rattle.pipe.specs.HandOver.{used, flags}
 use Rattle.pipe.specs.Upstream.{size, Inv, Err, Init, WriteCheck, ReadCheck, Reset, Close, ClearReset, SpaceGet, DataGet, IsEmpty, IsFull, IsOpen, IsResetting, SizeGet, WriteDecide, ReadDecide, Roundtrip, Conservation, ResetEmpties, CloseClears}
 use Rattle.pipe.proofs.Verdicts.{Within, write-within, read-within, is-proper, write-is, read-is, write-moves, read-moves}
@@ -60,12 +59,9 @@ pipe-init n {h} {b} {r} {h'} w room s =
 -- ---- write_check and read_check
 
 module _ (l : List ℕ) (p : Pipe) where
-  abbrev q : ℕ → Pipe
-  q k = holding (append (take k l) (p .ring)) p
-
-  wrote : (v : Verdict) → Within (length l) (size p - used p) v → (p .opened ≡ false → Err (answer (done q v)))
-      → (p .resetting ≡ true → Err (answer (done q v)))
-      → Inv (left (done q v) p) → WriteCheck (length l) p (answer (done q v)) (left (done q v) p)
+  wrote : (v : Verdict) → Within (length l) (size p - used p) v → (p .opened ≡ false → Err (answer (goesIn l p v)))
+      → (p .resetting ≡ true → Err (answer (goesIn l p v)))
+      → Inv (left (goesIn l p v) p) → WriteCheck (length l) p (answer (goesIn l p v)) (left (goesIn l p v) p)
   wrote (never (pos c)) w o r i = absurd w
   wrote (never (negsuc c)) w o r i =
       record {
@@ -119,11 +115,8 @@ module _ (l : List ℕ) (p : Pipe) where
   resetting-errs e k x = no-number (rw e at x)
 
 module _ (n : ℕ) (p : Pipe) where
-  abbrev g : ℕ → Pipe
-  g k = holding (leave k (p .ring)) p
-
-  took : (v : Verdict) → Within n (used p) v → (p .resetting ≡ true → Err (answer (done g v))) → Inv (left (done g v) p)
-      → ReadCheck n p (answer (done g v)) (left (done g v) p)
+  took : (v : Verdict) → Within n (used p) v → (p .resetting ≡ true → Err (answer (comesOut p v))) → Inv (left (comesOut p v) p)
+      → ReadCheck n p (answer (comesOut p v)) (left (comesOut p v) p)
   took (never (pos c)) w r i = absurd w
   took (never (negsuc c)) w r i =
       record {
@@ -260,7 +253,7 @@ module _ (u s f n : ℕ) (w : Bool) {a c : ℕ} {r : ℤ} {a' c' : ℕ} where
 -- ---- lemmas
 
 -- lemma_invariant_inductive ends in `ensures true`: the invariant holds after any sequence of calls of a new pipe
-pub invariant-inductive : (n : ℕ) {h b h₀ : List ℕ} → Starts n h b ok h₀ → {ss : List (Step Call)} {h' b' : List ℕ} → Made layout does gives h₀ b ss h' b'
+pub invariant-inductive : (n : ℕ) {h b h₀ : List ℕ} → Starts n h b ok h₀ → {ss : List (Step Call)} {h' b' : List ℕ} → Made layout does h₀ b ss h' b'
     → Inv (object h' b')
 invariant-inductive n s {h' = h'} {b' = b'} x = inv h' b' (from-init n s x .0)
 
@@ -273,7 +266,7 @@ write-read-roundtrip u s n some k fit =
       back = z;
       write = write-is u s 1 n false (is-proper u s 1 some (omega arith) (omega arith)) (write-moves u s 1 n refl k (omega arith) ∙ ap move x);
       read = read-is (u + n) s 1 n false (is-proper (u + n) s 1 some fit (omega arith))
-          (read-moves (u + n) s 1 n (omega arith) k (omega arith) ∙ ap move y) ∙ ap (λ (j : ℕ). accept (record { actual = n; used = j }) goes) z;
+          (read-moves (u + n) s 1 n (omega arith) k (omega arith) ∙ ap move y) ∙ ap (λ (j : ℕ). accept (record { actual = n; used = j }) goes []) z;
     }
 
 pub reset-empties : (p : Pipe) → ResetEmpties p
