@@ -53,7 +53,8 @@ module _ (p : Pipe) (some : 0 < p .ring .capacity) (under : used p ≤ p .ring .
 
   pub write-agrees : (l : List ℕ) → Agree p (writeOf (length l) p) (write l p)
   write-agrees l =
-      let h : (k : ℕ) → k ≤ length l → used p + k ≡ used (more l p k) = λ k m. sym (length-append (p .ring .held) (take k l) ∙ omega (arith, length-take k l)) in
+      let h : (k : ℕ) → k ≤ length l → used p + k ≡ used (more l p k) =
+      λ k m. sym (length-append (p .ring .held) (take k l) ∙ omega (arith, length-take k l)) in
       subst (λ (d : Reply Moves). Agree p d (write l p)) (sym (write-is (used p) (p .ring .capacity) (flags p) (length l) false fits (write-same (length l))))
       (agree p (length l) (p .ring .capacity - used p) (λ k. used p + k) (more l p) (λ k. []) h (toWrite (length l) p)
       (write-within (used p) (p .ring .capacity) (p .opened) (p .resetting) (length l)))
@@ -61,7 +62,8 @@ module _ (p : Pipe) (some : 0 < p .ring .capacity) (under : used p ≤ p .ring .
   pub read-agrees : (n : ℕ) → Agree p (readOf n p) (read n p)
   read-agrees n =
       subst (λ (d : Reply Moves). Agree p d (read n p)) (sym (read-is (used p) (p .ring .capacity) (flags p) n false fits (read-same n)))
-      (agree p n (used p) (λ k. used p - k) (less p) (λ k. take k (p .ring .held)) (λ k m. sym (length-drop k (p .ring .held))) (toRead n p) (read-within (used p) (p .opened) (p .resetting) n))
+      (agree p n (used p) (λ k. used p - k) (less p) (λ k. take k (p .ring .held)) (λ k m. sym (length-drop k (p .ring .held))) (toRead n p)
+      (read-within (used p) (p .opened) (p .resetting) n))
 
 -- ---- who waits
 

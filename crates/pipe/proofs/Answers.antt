@@ -231,7 +231,8 @@ module _ (h b : List ℕ) (s : Formed h b) where
   pub clear-none : getD h 3 0 < 2 → ClearsReset h b ok h
   clear-none f =
       did-yes layout clearReset h b (fine h b s) refl
-      (same (λ i. record { opened = isOpen (getD h 3 0); resetting = resetting-off (getD h 3 0) f i; ring = held h b }) (kept-flags h b (s .words) stays (s .flags)))
+      (same (λ i. record { opened = isOpen (getD h 3 0); resetting = resetting-off (getD h 3 0) f i; ring = held h b })
+      (kept-flags h b (s .words) stays (s .flags)))
 
   -- ---- what is told
 

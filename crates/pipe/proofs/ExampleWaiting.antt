@@ -35,10 +35,10 @@ two-wait = (refl, refl)
 
 -- all is read: 1; the first writer writes; the next read finds its byte while the second writer waits: 1 again; then that writes
 abbrev first : Waited
-first = then happens (after full) (enter ∷ read 4 ∷ [])
+first = after (enter ∷ read 4 ∷ full)
 
 abbrev second : Waited
-second = then happens first (enter ∷ read 1 ∷ [])
+second = after (enter ∷ read 1 ∷ enter ∷ read 4 ∷ full)
 
 one-wrote : (first .books .got ≡ 1 ∷ 2 ∷ 3 ∷ 4 ∷ []) × (first .pipe .ring .held ≡ 5 ∷ []) × (first .writers ≡ (6 ∷ []) ∷ []) × (first .letting ≡ true)
 unfolding turn wrap
@@ -55,18 +55,18 @@ answers : (readDecision 4 4 1 4 true ≡ accept (record { actual = 4; used = 0 }
 answers = (refl, refl, refl)
 
 -- a whole read: all that wait are let in, as far as there is room
-whole : lets 2 (then happens (after full) (read 1 ∷ [])) .writers ≡ (6 ∷ []) ∷ []
+whole : lets 2 (after (read 1 ∷ full)) .writers ≡ (6 ∷ []) ∷ []
 unfolding turn wrap
 whole = refl
 
 -- a reader comes before the first writer writes: it waits and is handed that byte; nothing is held, and the second writer is let in all the same
-between : (then happens (after full) (read 2 ∷ read 4 ∷ []) .readers ≡ 2 ∷ []) × (then happens (after full) (enter ∷ read 2 ∷ read 4 ∷ []) .books .got ≡ 1 ∷ 2 ∷ 3 ∷ 4 ∷ 5 ∷ [])
-    × (then happens (after full) (enter ∷ read 2 ∷ read 4 ∷ []) .letting ≡ true) × (then happens (after full) (enter ∷ enter ∷ read 2 ∷ read 4 ∷ []) .pipe .ring .held ≡ 6 ∷ [])
+between : (after (read 2 ∷ read 4 ∷ full) .readers ≡ 2 ∷ []) × (after (enter ∷ read 2 ∷ read 4 ∷ full) .books .got ≡ 1 ∷ 2 ∷ 3 ∷ 4 ∷ 5 ∷ [])
+    × (after (enter ∷ read 2 ∷ read 4 ∷ full) .letting ≡ true) × (after (enter ∷ enter ∷ read 2 ∷ read 4 ∷ full) .pipe .ring .held ≡ 6 ∷ [])
 unfolding turn wrap
 between = (refl, refl, refl, refl)
 
 -- a write comes before the first writer writes: it goes past nobody
-behind-them : then happens (after full) (enter ∷ enter ∷ enter ∷ write (7 ∷ []) ∷ read 4 ∷ []) .pipe .ring .held ≡ 5 ∷ 6 ∷ 7 ∷ []
+behind-them : after (enter ∷ enter ∷ enter ∷ write (7 ∷ []) ∷ read 4 ∷ full) .pipe .ring .held ≡ 5 ∷ 6 ∷ 7 ∷ []
 unfolding turn wrap
 behind-them = refl
 
@@ -94,7 +94,7 @@ flags-first : (writeDecision 0 4 3 1 true ≡ refuse ecanceled) × (readDecision
     pends []) × (writeDecision 5 4 3 1 true ≡ refuse einval)
 flags-first = (refl, refl, refl, refl, refl, refl, refl)
 
-reset-woke : (then happens (after full) (resets ∷ []) .writers ≡ []) × (then happens (after full) (read 1 ∷ closes ∷ []) .books .got ≡ 1 ∷ [])
-    × (then happens (after full) (closes ∷ []) .books .called ≡ (1 ∷ 2 ∷ 3 ∷ 4 ∷ []) ∷ [])
+reset-woke : (after (resets ∷ full) .writers ≡ []) × (after (read 1 ∷ closes ∷ full) .books .got ≡ 1 ∷ [])
+    × (after (closes ∷ full) .books .called ≡ (1 ∷ 2 ∷ 3 ∷ 4 ∷ []) ∷ [])
 unfolding turn wrap
 reset-woke = (refl, refl, refl)

@@ -75,7 +75,8 @@ module _ (p : Pipe) (r : p .resetting ≡ false) where
     pub read-waits : p .opened ≡ true → 0 < n → used p ≡ 0 → decides-read p n w ≡ accept (record { actual = 0; used = used p }) pends []
     read-waits o f e = by-read p some under n w {v = later} (rw (o, r, ne-eqb n 0 (λ y. omega arith), le-ltb 0 (used p) (omega arith)))
 
-    pub read-moves : 0 < n → 0 < used p → decides-read p n w ≡ accept (record { actual = min n (used p); used = used p - min n (used p) }) (cond w wakes goes) []
+    pub read-moves : 0 < n → 0 < used p
+        → decides-read p n w ≡ accept (record { actual = min n (used p); used = used p - min n (used p) }) (cond w wakes goes) []
     read-moves f g = by-read p some under n w (reads-moves n f g)
 
 -- ---- a write to an open pipe

@@ -12,7 +12,7 @@ use Rattle.seq.specs.List.{any}
 use Rattle.thread.specs.Code.{ok, einval}
 use Rattle.store.specs.Store.{accept, answer, Did, looks, left}
 use Rattle.store.specs.History.{Step, Made}
-use Rattle.store.proofs.Laws.{looks-is, looks-bad, answers}
+use Rattle.store.proofs.Laws.{looks-is, looks-bad, answers, kept-bad}
 use Rattle.store.proofs.Histories.{done as after}
 use Rattle.ring_buf.proofs.Answers.{held-is, spare-is}
 use Rattle.pipe.specs.Pipe.{Pipe, Verdict, never, later, move, goesIn, comesOut, toWrite, toRead, write, read, reset, close}
@@ -33,7 +33,7 @@ inv h b f = let s = from-formed h b f in record { some = omega (arith, s .ring .
 
 -- a malformed pipe is refused, and nothing changes
 pub refuses : (k : Call) {h b : List ℕ} {r : ℤ} {h' b' : List ℕ} → formed h b ≡ false → Did layout (does k) h b r h' b' → (r ≡ einval) × ((h' ≡ h) × (b' ≡ b))
-refuses k {h} {b} {r} {h'} {b'} f d = let a = d .after in (d .code ∙ rw f refl, rw f at a)
+refuses k {h} {b} f d = let a = kept-bad layout (does k) h b d f in (a .0, (a .1, a .2))
 
 -- ---- init
 
@@ -59,36 +59,27 @@ pipe-init n {h} {b} {r} {h'} w room s =
 -- ---- write_check and read_check
 
 module _ (l : List ℕ) (p : Pipe) where
+  -- a refusal
+  write-none : (c : ℕ) → Inv p → WriteCheck (length l) p (negsuc c) p
+  write-none c i =
+      record {
+        inv = i;
+        sized = refl;
+        closed = λ o k e. no-number e;
+        resetting = λ r k e. no-number e;
+        some = λ k e. absurd (no-number e);
+        few = λ k e. absurd (no-number e);
+        more = λ k e. absurd (no-number e);
+        under = λ k e. absurd (no-number e);
+        kept = λ e. refl;
+      }
+
   wrote : (v : Verdict) → Within (length l) (size p - used p) v → (p .opened ≡ false → Err (answer (goesIn l p v)))
       → (p .resetting ≡ true → Err (answer (goesIn l p v)))
       → Inv (left (goesIn l p v) p) → WriteCheck (length l) p (answer (goesIn l p v)) (left (goesIn l p v) p)
   wrote (never (pos c)) w o r i = absurd w
-  wrote (never (negsuc c)) w o r i =
-      record {
-        inv = i;
-        sized = refl;
-        closed = o;
-        resetting = r;
-        some = λ k e. absurd (no-number e);
-        few = λ k e. absurd
-            (no-number e);
-        more = λ k e. absurd (no-number e);
-        under = λ k e. absurd (no-number e);
-        kept = λ e. refl;
-      }
-  wrote later w o r i =
-      record {
-        inv = i;
-        sized = refl;
-        closed = o;
-        resetting = r;
-        some = λ k e. absurd (no-number e);
-        few = λ k e. absurd
-            (no-number e);
-        more = λ k e. absurd (no-number e);
-        under = λ k e. absurd (no-number e);
-        kept = λ e. refl;
-      }
+  wrote (never (negsuc c)) w o r i = write-none c i
+  wrote later w o r i = write-none 10 i
   wrote (move n) w o r i =
       let m = length-append (p .ring .held) (take n l) in
       let t = length-take n l in
@@ -115,31 +106,23 @@ module _ (l : List ℕ) (p : Pipe) where
   resetting-errs e k x = no-number (rw e at x)
 
 module _ (n : ℕ) (p : Pipe) where
+  read-none : (c : ℕ) → Inv p → ReadCheck n p (negsuc c) p
+  read-none c i =
+      record {
+        inv = i;
+        sized = refl;
+        resetting = λ r k e. no-number e;
+        some = λ k e. absurd (no-number e);
+        few = λ k e. absurd (no-number e);
+        fewer = λ k e. absurd (no-number e);
+        kept = λ e. refl;
+      }
+
   took : (v : Verdict) → Within n (used p) v → (p .resetting ≡ true → Err (answer (comesOut p v))) → Inv (left (comesOut p v) p)
       → ReadCheck n p (answer (comesOut p v)) (left (comesOut p v) p)
   took (never (pos c)) w r i = absurd w
-  took (never (negsuc c)) w r i =
-      record {
-        inv = i;
-        sized = refl;
-        resetting = r;
-        some = λ k e. absurd (no-number e);
-        few = λ k e. absurd (no-number e);
-        fewer = λ k e. absurd
-            (no-number e);
-        kept = λ e. refl;
-      }
-  took later w r i =
-      record {
-        inv = i;
-        sized = refl;
-        resetting = r;
-        some = λ k e. absurd (no-number e);
-        few = λ k e. absurd (no-number e);
-        fewer = λ k e. absurd
-            (no-number e);
-        kept = λ e. refl;
-      }
+  took (never (negsuc c)) w r i = read-none c i
+  took later w r i = read-none 10 i
   took (move m) w r i =
       let d = length-drop m (p .ring .held) in
       record {

@@ -233,7 +233,8 @@ module _ (used size f : ℕ) where
       record { some-size = ltb-true 0 size (x .0); under = leb-true used size (y .0); flags = leb-true f 3 (y .1) }
 
 module _ (used size f n : ℕ) (w : Bool) where
-  pub write-is : {v : Verdict} → proper used size f ≡ true → writes used size (isOpen f) (isResetting f) n ≡ v → writeDecision used size f n w ≡ decided used (cond w wakes goes) (heldThen w used) v
+  pub write-is : {v : Verdict} → proper used size f ≡ true → writes used size (isOpen f) (isResetting f) n ≡ v
+      → writeDecision used size f n w ≡ decided used (cond w wakes goes) (heldThen w used) v
   write-is p e = rw p (ap (decided used (cond w wakes goes) (heldThen w used)) e)
 
   pub read-is : {v : Verdict} → proper used size f ≡ true → reads used (isOpen f) (isResetting f) n ≡ v → readDecision used size f n w ≡ decided used (cond w wakes goes) (λ k. used - k) v

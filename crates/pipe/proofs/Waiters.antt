@@ -75,7 +75,8 @@ module _ (c : ℕ) (some : 0 < c) where
             let u : used q ≡ n = length-append (p .ring .held) (take n l) ∙ omega (arith, length-take n l) in
             let x = fills p o e l n k h m in
             let y : drained a (filled l n p) ≡ less q (min a (used q)) = ap (drained a) x ∙ drains q e a (omega arith) (omega arith) in
-            let d : out (read a (filled l n p)) ≡ take (min a (used q)) (q .ring .held) = ap (λ (q : Pipe). out (read a q)) x ∙ takes q e a (omega arith) (omega arith) in
+            let d : out (read a (filled l n p)) ≡ take (min a (used q)) (q .ring .held) =
+            ap (λ (q : Pipe). out (read a q)) x ∙ takes q e a (omega arith) (omega arith) in
             let v' = length-take (min a (used q)) (q .ring .held) in
             let gone : drop (min a (used q)) (q .ring .held) ≡ [] = drop-of-length-le (q .ring .held) {i = min a (used q)} (omega arith) in
             subst (Fair c) (sym (λ i. waited (y i) r w' b (feeds (d i) (enters (take n l) (recalled cs' bk)))))

@@ -35,7 +35,8 @@ readOf n p = readDecision (used p) (p .ring .capacity) (flags p) n false
 pub record HandsOver (l : List ℕ) (n : ℕ) (p : Pipe) : Type 0 where
   pub full : Pipe
   pub after : Pipe
-  pub decided : writeDecision 0 (p .ring .capacity) (flags p) (length l) true ≡ accept (record { actual = min (length l) (p .ring .capacity); used = 0 }) wakes []
+  pub decided : writeDecision 0 (p .ring .capacity) (flags p) (length l) true
+      ≡ accept (record { actual = min (length l) (p .ring .capacity); used = 0 }) wakes []
   pub write : write l p ≡ accept full (pos (min (length l) (p .ring .capacity))) []
   pub read : read n full ≡ accept after (pos (min (length l) (p .ring .capacity))) (take (min (length l) (p .ring .capacity)) l)
   pub empty : after .ring .held ≡ []
@@ -43,7 +44,8 @@ pub record HandsOver (l : List ℕ) (n : ℕ) (p : Pipe) : Type 0 where
 -- a reader waits, to read n bytes, at an open pipe that holds bytes and is not full: l goes behind what is held, and the reader reads of that first
 pub record Behind (l : List ℕ) (n : ℕ) (p : Pipe) : Type 0 where
   pub after : Pipe
-  pub decided : writeDecision (used p) (p .ring .capacity) (flags p) (length l) true ≡ accept (record { actual = min (length l) (p .ring .capacity - used p); used = used after }) wakes []
+  pub decided : writeDecision (used p) (p .ring .capacity) (flags p) (length l) true
+      ≡ accept (record { actual = min (length l) (p .ring .capacity - used p); used = used after }) wakes []
   pub write : write l p ≡ accept after (pos (min (length l) (p .ring .capacity - used p))) []
   pub held : after .ring .held ≡ p .ring .held ++ take (min (length l) (p .ring .capacity - used p)) l
   pub first : n ≤ used p → out (read n after) ≡ take n (p .ring .held)

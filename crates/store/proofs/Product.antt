@@ -44,7 +44,8 @@ module _ {T : Type 0} (Q : Place T) (k : ℕ) (g : T → Reply T) (h b : List �
           }
 
 -- what is done at the place P, and what it is at Q
-module _ {S T : Type 0} (P : Place S) (Q : Place T) (F : S → T) (f : S → Reply S) (g : T → Reply T) (h b : List ℕ) (is : reply Q g h b ≡ carry F (reply P f h b)) where
+module _ {S T : Type 0} (P : Place S) (Q : Place T) (F : S → T) (f : S → Reply S) (g : T → Reply T) (h b : List ℕ)
+    (is : reply Q g h b ≡ carry F (reply P f h b)) where
   pub carried : {r : ℤ} {h' b' : List ℕ} → ((s : S) → Becomes P s h b h' b' → Becomes Q (F s) h b h' b') → Did P f h b r h' b' → Did Q g h b r h' b'
   carried {h' = h'} {b'} l d =
       record {
@@ -61,19 +62,22 @@ module _ {S T : Type 0} (P : Place S) (Q : Place T) (F : S → T) (f : S → Rep
       lifted (accept s c o) a = l s a
 
   -- and hands out to a place
-  pub carried-place : (o : List ℕ) {r : ℤ} {h' o' : List ℕ} → ((s : S) → Becomes P s h b h' b → Becomes Q (F s) h b h' b) → Fills P f h b o r h' o' → Fills Q g h b o r h' o'
+  pub carried-place : (o : List ℕ) {r : ℤ} {h' o' : List ℕ} → ((s : S) → Becomes P s h b h' b → Becomes Q (F s) h b h' b)
+      → Fills P f h b o r h' o' → Fills Q g h b o r h' o'
   carried-place o {o' = o'} l (d, e) = (carried l d, subst (λ (l : List ℕ). Filled l o o') (sym (ap out is ∙ carry-out F (reply P f h b))) e)
+
+-- tested alike
+alike : {S T : Type 0} (F : S → T) (c : Bool) {u : Reply T} (v : Reply S) → (c ≡ true → u ≡ carry F v)
+    → cond c u (refuse einval) ≡ carry F (cond c v (refuse einval))
+alike F true v y = y refl
+alike F false v y = refl
 
 -- what is said of a place in other words
 module _ {S T : Type 0} (F : S → T) (P : Place S) (f : S → Reply S) (g : T → Reply T) (h b : List ℕ) {r : ℤ} {h' b' : List ℕ} where
   pub reshaped : (P .formed h b ≡ true → g (F (P .object h b)) ≡ carry F (f (P .object h b))) → Did P f h b r h' b' → Did (shaped F P) g h b r h' b'
   reshaped y =
-      carried P (shaped F P) F f g h b (go (P .formed h b) refl)
+      carried P (shaped F P) F f g h b (alike F (P .formed h b) (f (P .object h b)) y)
       (λ s a. record { formed = a .formed; object = ap F (a .object); beside = a .beside; rest = a .rest; long = a .long })
-    where
-      go : (c : Bool) → P .formed h b ≡ c → cond (P .formed h b) (g (F (P .object h b))) (refuse einval) ≡ carry F (cond (P .formed h b) (f (P .object h b)) (refuse einval))
-      go true q = rw q (y q)
-      go false q = rw q
 
 -- what the second does, done to both
 abbrev pub withFirst : {S T : Type 0} → S → Reply T → Reply (S × T)
@@ -85,13 +89,8 @@ module _ {S T : Type 0} (P : Place S) (Q : Place T) (f : S × T → Reply (S × 
       → (Q .formed h b ≡ true → f (P .object h b, Q .object h b) ≡ withFirst (P .object h b) (g (Q .object h b)))
       → Did Q g h b r h' b' → Did (P ⊗ Q) f h b r h' b'
   second-acts g z z' e' p y =
-      carried Q (P ⊗ Q) (λ t. (P .object h b, t)) g f h b (rw (e, z) (go (Q .formed h b) refl))
+      carried Q (P ⊗ Q) (λ t. (P .object h b, t)) g f h b (rw (e, z) (alike (λ t. (P .object h b, t)) (Q .formed h b) (g (Q .object h b)) y))
       (λ t a. record { formed = rw (e', z') (a .formed); object = rw (z', p, a .object); beside = a .beside; rest = rw z' (a .rest); long = a .long })
-    where
-      go : (c : Bool) → Q .formed h b ≡ c
-          → cond (Q .formed h b) (f (P .object h b, Q .object h b)) (refuse einval) ≡ withFirst (P .object h b) (cond (Q .formed h b) (g (Q .object h b)) (refuse einval))
-      go true q = rw q (y q)
-      go false q = rw q
 
 -- ---- a place and a word behind it
 
@@ -133,11 +132,13 @@ module _ {S T : Type 0} (P : Place S) (may : ℕ → Bool) (F : S × ℕ → T) 
 
   module _ (l : P .words < length h) where
     -- the first is s now, and the word is x, at which P does not look
-    pub new-word : {s : S} {h' b' : List ℕ} (x : ℕ) → may x ≡ true → sees P (set h' (P .words) x) b' ≡ sees P h' b' → Becomes P s h b h' b' → Becomes both (F (s, x)) h b (set h' (P .words) x) b'
+    pub new-word : {s : S} {h' b' : List ℕ} (x : ℕ) → may x ≡ true → sees P (set h' (P .words) x) b' ≡ sees P h' b'
+        → Becomes P s h b h' b' → Becomes both (F (s, x)) h b (set h' (P .words) x) b'
     new-word {s} {h'} {b'} x y e m =
         let w : getD (set h' (P .words) x) (P .words) 0 ≡ x = getD-set-same h' (P .words) x 0 (omega (arith, m .long .0)) in
+        let k = le-leb (suc (P .words)) (length (set h' (P .words) x)) (omega (arith, length-set h' (P .words) x, m .long .0)) in
         record {
-          formed = rw (le-leb (suc (P .words)) (length (set h' (P .words) x)) (omega (arith, length-set h' (P .words) x, m .long .0)), w, y, ap (λ (q : ℕ × S × Bool). q .2) e, m .formed);
+          formed = rw (k, w, y, ap (λ (q : ℕ × S × Bool). q .2) e, m .formed);
           object = λ i. F ((ap (λ (q : ℕ × S × Bool). q .1) e ∙ m .object) i, w i);
           beside = drop-set-lt (suc (P .words)) h' (P .words) x (omega arith) ∙ sym (next h') ∙ ap (drop 1) (m .beside) ∙ next h;
           rest = rw (past-zero (P .size (set h' (P .words) x)), ap (λ (q : ℕ × S × Bool). q .0) e) (m .rest);
@@ -158,14 +159,10 @@ module _ {S T : Type 0} (P : Place S) (may : ℕ → Bool) (F : S × ℕ → T) 
         here t = let e : P .words + 0 ≡ P .words = omega arith in getD-drop (P .words) t 0 0 ∙ ap (λ (n : ℕ). getD t n 0) e
 
     -- what the first does to its part, it does to the whole
-    module _ (f : S → Reply S) (g : T → Reply T) (y : may it ≡ true) (e : P .formed h b ≡ true → g (F (P .object h b, it)) ≡ carry (λ s. F (s, it)) (f (P .object h b))) where
+    module _ (f : S → Reply S) (g : T → Reply T) (y : may it ≡ true)
+        (e : P .formed h b ≡ true → g (F (P .object h b, it)) ≡ carry (λ s. F (s, it)) (f (P .object h b))) where
       first-reply : reply both g h b ≡ carry (λ s. F (s, it)) (reply P f h b)
-      first-reply = rw (good-word l y) (go (P .formed h b) refl)
-        where
-          go : (c : Bool) → P .formed h b ≡ c
-              → cond (P .formed h b) (g (F (P .object h b, it))) (refuse einval) ≡ carry (λ s. F (s, it)) (cond (P .formed h b) (f (P .object h b)) (refuse einval))
-          go true q = rw q (e q)
-          go false q = rw q
+      first-reply = rw (good-word l y) (alike (λ s. F (s, it)) (P .formed h b) (f (P .object h b)) e)
 
       pub first-acts : {r : ℤ} {h' b' : List ℕ} → Did P f h b r h' b' → Did both g h b r h' b'
       first-acts = carried P both (λ s. F (s, it)) f g h b first-reply (λ s. kept-word y)

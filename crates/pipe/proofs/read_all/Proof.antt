@@ -56,7 +56,8 @@ returns-2 c =
     let a = c .before .before .before .before .before .before .before .before .before .before .before .before .before .before .before .before .before .args in
     let w = c .before .before .before .before .before .before .before .before .wide .ensures in
     let u = c .before .before .before .before .get-n in
-    rw (answered64 {z = u .result} (u .ok)) (took-all (a .h .now) (a .b .now) (omega arith) (a .out .now) (omega arith) (omega arith) (omega (arith, w)) (u .ensures))
+    rw (answered64 {z = u .result} (u .ok))
+    (took-all (a .h .now) (a .b .now) (omega arith) (a .out .now) (omega arith) (omega arith) (omega (arith, w)) (u .ensures))
 
 -- src/lib.rt:239:5
 read-all-refusal-requires : tie.Need-read-all-refusal-requires
