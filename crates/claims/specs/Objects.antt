@@ -44,22 +44,22 @@ unwaited q = record { queue = q; readers = 0; writers = []; got = []; line = [];
 
 pub record Objects : Type 1 where
   -- the queue of any lawful kind: sorted, in the order of arrival, nobody twice; the numbers as they should be
-  pub queued : (K : kind.Kind) → kind.Lawful K → (v : ℕ → K .Wish) (s : histories.Object (K .Num)) (xs : List (histories.Event (K .Call)))
+  pub queued : (K : kind.Kind) → kind.Lawful K → (v : ℕ → K .Wish) (s : objects.Object (K .Num)) (xs : List (histories.Event (K .Call)))
       → histories.Good K v s → histories.Lasting K v s xs
   pub semaphore : (c l : ℕ) (xs : List (histories.Event semaphore.Call)) → c ≤ l → 0 < l → sem.Promise c l xs
   pub mutex : (xs : List (histories.Event lock.Call)) → mutex.Promise xs
   pub futex : (v : ℕ) (xs : List (histories.Event value.Call)) → futex.Promise v xs
   -- in memory, from an init on that is answered 0
   pub ring-buffer : (c : ℕ) (h b h₀ : List ℕ) → rings.Starts c h b ok h₀ → (ss : List (steps.Step ring_buf.Call)) (h' b' : List ℕ)
-      → steps.Made bytes.bytes ring_buf.does ring_buf.gives h₀ b ss h' b'
+      → steps.Made bytes.bytes ring_buf.does h₀ b ss h' b'
       → (bytes.bytes .formed h' b' ≡ true) × ring_buf.Promise c ss (bytes.bytes .object h' b')
   pub message-queue : (c z : ℕ) (h b h₀ : List ℕ) → queues.Starts z c h b ok h₀ → (ss : List (steps.Step msgq.Call)) (h' b' : List ℕ)
-      → steps.Made queues.messages msgq.does msgq.gives h₀ b ss h' b'
+      → steps.Made queues.messages msgq.does h₀ b ss h' b'
       → (queues.messages .formed h' b' ≡ true) × msgq.Promise c z ss (queues.messages .object h' b')
   pub pipe : (n : ℕ) (h b h₀ : List ℕ) → pipes.Starts n h b ok h₀ → (ss : List (steps.Step pipe.Call)) (h' b' : List ℕ)
-      → steps.Made pipes.layout pipe.does pipe.gives h₀ b ss h' b' → (pipes.layout .formed h' b' ≡ true) × pipe.Promise n ss (pipes.layout .object h' b')
+      → steps.Made pipes.layout pipe.does h₀ b ss h' b' → (pipes.layout .formed h' b' ≡ true) × pipe.Promise n ss (pipes.layout .object h' b')
   pub stack : (c : ℕ) (h w h₀ : List ℕ) → words.Starts c h w ok h₀ → (ts : List (steps.Step stack.Call)) (h' w' : List ℕ)
-      → steps.Made words.place stack.does stack.gives h₀ w ts h' w' → stack.Kept c ts h' w'
+      → steps.Made words.place stack.does h₀ w ts h' w' → stack.Kept c ts h' w'
   pub memory-slab : (z n : ℕ) → mem_slab.Always z n
   -- whatever the links of a slab hold
   pub no-two : (h l : List ℕ) → blocks.NoTwo h l

@@ -103,7 +103,7 @@ module _ {N : Type 0} (L : Layout N) (f : Object N → Reply (Object N)) (h e : 
       reshaped (λ (y : N × List ℕ). record { num = y .0; queue = y .1 }) (numbers (L .len) (L .num) ⊗ behind (L .len) waitQueue)
       (λ y. withFirst (y .0) (g (y .1))) f h e (λ z. t (rw (le-leb (suc (L .len)) (length h) w) at z) ∙ again (g (waiting e (getD h (L .len) 0))))
       (second-acts (numbers (L .len) (L .num)) (behind (L .len) waitQueue) (λ y. withFirst (y .0) (g (y .1))) h e refl g refl refl refl x (λ z. refl)
-      (lent-word waitQueue (L .len) g h e (omega arith) refl d))
+      (lent-word waitQueue (L .len) g h e (omega arith) d))
     where
       again : (y : Reply (List ℕ)) → queued (L .num h) y ≡ carry {S = Object N} (λ (z : N × List ℕ). record { num = z .0; queue = z .1 }) (withFirst (L .num h) y)
       again (refuse c) = refl

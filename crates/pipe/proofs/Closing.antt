@@ -5,30 +5,30 @@ use mathlib.Core.List.{List, []}
 use Prim.Native.Nat.{ℕ, _<_, min}
 use native.Mathlib.Omega.{arith}
 use borrow.Author.Tests.{ne-eqb, lt-ltb}
+use lib.IntN.{pos}
 use lib.ListN.{length, take}
 use Rattle.seq.specs.List.{All}
 use Rattle.thread.specs.Code.{ecanceled}
-use Rattle.store.specs.Store.{Reply, refuse, answer, left}
+use Rattle.store.specs.Store.{Reply, refuse, accept, answer, left}
 use Rattle.store.specs.History.{Step, Ran, fresh, ran, Made}
-use Rattle.store.proofs.Histories.{runs}
-use Rattle.ring_buf.specs.Ring.{append, leave}
-use Rattle.pipe.specs.Pipe.{Pipe, Verdict, never, later, move, moved, done, holding, toWrite, toWriteAll, toRead, toReadAll, write, writeAll, read, readAll}
+use Rattle.store.proofs.Histories.{runs, throughout}
+use Rattle.pipe.specs.Pipe.{Pipe, Verdict, never, later, move, more, less, done, comesOut, toWrite, toWriteAll, toRead, toReadAll, write, writeAll, read, readAll}
 use Rattle.pipe.specs.Post.{formed, object, layout}
-use Rattle.pipe.specs.History.{Call, writes, writesAll, reads, readsAll, resets, closes, clears, does, gives, putBy, Closed, Readable, Ends, cancelled, Cancelled}
+use Rattle.pipe.specs.History.{Call, writes, writesAll, reads, readsAll, resets, closes, clears, does, putBy, Closed, Readable, Ends, cancelled, Cancelled}
 use Rattle.pipe.proofs.Answers.{take-least}
 
 -- ---- closed
 
-spared : {X : Type 0} (g : Pipe → X) (p : Pipe) (f : ℕ → Pipe) → ((k : ℕ) → g (f k) ≡ g p) → (v : Verdict) → g (left (done f v) p) ≡ g p
-spared g p f h (never c) = refl
-spared g p f h later = refl
-spared g p f h (move k) = h k
+spared : (p : Pipe) (f : ℕ → Pipe) (o : ℕ → List ℕ) → ((k : ℕ) → f k .opened ≡ p .opened) → (v : Verdict) → left (done f o v) p .opened ≡ p .opened
+spared p f o h (never c) = refl
+spared p f o h later = refl
+spared p f o h (move k) = h k
 
 still : (k : Call) (p : Pipe) → p .opened ≡ false → left (does k p) p .opened ≡ false
-still (writes l) p e = spared (λ q. q .opened) p (λ k. holding (append (take k l) (p .ring)) p) (λ k. refl) (toWrite (length l) p) ∙ e
-still (writesAll l) p e = spared (λ q. q .opened) p (λ k. holding (append (take k l) (p .ring)) p) (λ k. refl) (toWriteAll (length l) p) ∙ e
-still (reads n) p e = spared (λ q. q .opened) p (λ k. holding (leave k (p .ring)) p) (λ k. refl) (toRead n p) ∙ e
-still (readsAll n) p e = spared (λ q. q .opened) p (λ k. holding (leave k (p .ring)) p) (λ k. refl) (toReadAll n p) ∙ e
+still (writes l) p e = spared p (more l p) (λ k. []) (λ k. refl) (toWrite (length l) p) ∙ e
+still (writesAll l) p e = spared p (more l p) (λ k. []) (λ k. refl) (toWriteAll (length l) p) ∙ e
+still (reads n) p e = spared p (less p) (λ k. take k (p .ring .held)) (λ k. refl) (toRead n p) ∙ e
+still (readsAll n) p e = spared p (less p) (λ k. take k (p .ring .held)) (λ k. refl) (toReadAll n p) ∙ e
 still resets p e = e
 still closes p e = refl
 still clears p e = e
@@ -50,23 +50,19 @@ nothing-sent resets p e = refl
 nothing-sent closes p e = refl
 nothing-sent clears p e = refl
 
-closed-ran : {p₀ : Pipe} → p₀ .opened ≡ false → {ss : List (Step Call)} {p : Pipe} → Ran does gives p₀ ss p → Closed ss p
-closed-ran e fresh = record { stays = e; unwritten = tt }
-closed-ran e (ran {s = p} {k} o o' x f) =
-    let c = closed-ran e x in
-    record { stays = still k p (c .stays); unwritten = (nothing-sent k p (c .stays), c .unwritten) }
+closed-ran : {p₀ : Pipe} → p₀ .opened ≡ false → {ss : List (Step Call)} {p : Pipe} → Ran does p₀ ss p → Closed ss p
+closed-ran e =
+    throughout does Closed (λ k ss p o c. record { stays = still k p (c .stays); unwritten = (nothing-sent k p (c .stays), c .unwritten) })
+    (record { stays = e; unwritten = tt })
 
 pub closed : {h₀ b₀ : List ℕ} → formed h₀ b₀ ≡ true → object h₀ b₀ .opened ≡ false → {ss : List (Step Call)} {h b : List ℕ}
-    → Made layout does gives h₀ b₀ ss h b → Closed ss (object h b)
-closed f e m = closed-ran e (runs layout does gives f m .1)
+    → Made layout does h₀ b₀ ss h b → Closed ss (object h b)
+closed f e m = closed-ran e (runs layout does f m .1)
 
 pub readable : (n : ℕ) (p : Pipe) → p .resetting ≡ false → 0 < n → 0 < length (p .ring .held) → Readable n p
 readable n p e f g =
     let v : toRead n p ≡ move (min n (length (p .ring .held))) = rw (e, ne-eqb n 0 (λ z. omega arith), lt-ltb 0 (length (p .ring .held)) g) in
-    record {
-      bytes = ap (λ (x : Verdict). take (moved x) (p .ring .held)) v ∙ sym (take-least n (p .ring .held));
-      done = ap (done (λ k. holding (leave k (p .ring)) p)) v;
-    }
+    ap (comesOut p) v ∙ ap (accept (less p (min n (length (p .ring .held)))) (pos (min n (length (p .ring .held))))) (sym (take-least n (p .ring .held)))
 
 -- ---- resetting
 
@@ -85,7 +81,7 @@ module _ (p : Pipe) (e : p .resetting ≡ true) (z : p .ring .held ≡ []) where
   void closes f = absurd (f tt)
   void clears f = absurd (f tt)
 
-cancelled-ran : {p₀ : Pipe} → p₀ .resetting ≡ true → p₀ .ring .held ≡ [] → {ss : List (Step Call)} {p : Pipe} → Ran does gives p₀ ss p
+cancelled-ran : {p₀ : Pipe} → p₀ .resetting ≡ true → p₀ .ring .held ≡ [] → {ss : List (Step Call)} {p : Pipe} → Ran does p₀ ss p
     → All (λ (s : Step Call). Ends (s .call) → ⊥) ss → Cancelled ss p
 cancelled-ran e z fresh n = record { stays = e; empty = z; cancelled = tt }
 cancelled-ran e z (ran {s = p} {k} o o' x f) n =
@@ -94,6 +90,6 @@ cancelled-ran e z (ran {s = p} {k} o o' x f) n =
     record { stays = v .0; empty = v .1 .0; cancelled = (v .1 .1, c .cancelled) }
 
 pub cancels : {h₀ b₀ : List ℕ} → formed h₀ b₀ ≡ true → object h₀ b₀ .resetting ≡ true → object h₀ b₀ .ring .held ≡ [] → {ss : List (Step Call)} {h b : List ℕ}
-    → Made layout does gives h₀ b₀ ss h b
+    → Made layout does h₀ b₀ ss h b
     → All (λ (s : Step Call). Ends (s .call) → ⊥) ss → Cancelled ss (object h b)
-cancels f e z m n = cancelled-ran e z (runs layout does gives f m .1) n
+cancels f e z m n = cancelled-ran e z (runs layout does f m .1) n

@@ -11,7 +11,7 @@ use Rattle.store.specs.Store.{Reply, settled}
 use Rattle.ring_buf.specs.Ring.{append}
 use Rattle.ring_buf.proofs.Rings.{by-lt}
 use Rattle.pipe.specs.Pipe.{Pipe, holding}
-use Rattle.pipe.specs.Post.{Moves, behind}
+use Rattle.pipe.specs.Post.{Moves, heldThen}
 use Rattle.pipe.specs.HandOver.{used}
 use Rattle.pipe.specs.Waiting.{Books, Waited, waited, Try, writing, reading, entering, wanted, decision, filled, drained, queued, asked, told}
 use Rattle.pipe.specs.Fair.{Fair, Counts, Counted}
@@ -30,7 +30,7 @@ module _ (c : ℕ) (some : 0 < c) (p : Pipe) (b : Bool) (bk : Books) where
     holds : used (filled l n p) ≡ used p + n
     holds = ap used (fills p o e l n k h m) ∙ length-append (p .ring .held) (take n l) ∙ omega (arith, length-take n l)
 
-    handed : (a : ℕ) → n ≤ a → used p ≡ 0 → used (drained a (filled l n p)) ≡ behind true (used p) n
+    handed : (a : ℕ) → n ≤ a → used p ≡ 0 → used (drained a (filled l n p)) ≡ heldThen true (used p) n
     handed a j z =
         let q = holding (append (take n l) (p .ring)) p in
         let u : used q ≡ n = length-append (p .ring .held) (take n l) ∙ omega (arith, length-take n l) in

@@ -10,7 +10,8 @@ use Rattle.seq.specs.Only.{Only}
 use Rattle.seq.proofs.Only.{said, back-alike}
 use Rattle.store.specs.Store.{Reply}
 use Rattle.store.specs.Determined.{Faithful}
-use Rattle.store.proofs.Determined.{did-only, reads-only, hands-only, starts-only}
+use Rattle.store.proofs.Determined.{did-only, reads-only, fills-only, starts-only}
+use Rattle.store.proofs.Product.{past-zero}
 use Rattle.ring_buf.specs.Bytes.{sound, may}
 use Rattle.ring_buf.proofs.Headers.{is-sound}
 use Rattle.ring_buf.proofs.Determined as ring
@@ -40,7 +41,7 @@ faithful =
           flags-are (getD h 3 0) (from-formed h b f .flags) ∙ ap (λ (p : Pipe). cond (p .opened) (cond (p .resetting) 3 1) (cond (p .resetting) 2 0)) e
           ∙ sym (flags-are (getD h' 3 0) (from-formed h' b' f' .flags)) in
           back-alike 4 h h' (λ i. g i ∷ a 2 (omega arith) i ∷ a 1 (omega arith) i ∷ a 0 (omega arith) i ∷ []);
-      buffer = λ h b b' f f' e. ring.faithful .buffer h b b' (its-ring h b f) (its-ring h b' f') (λ i. e i .ring);
+      buffer = λ h b b' f f' e. rw (past-zero (getD h 0 0)) (ring.faithful .buffer h b b' (its-ring h b f) (its-ring h b' f') (λ i. e i .ring));
     }
 
 decided-only : (d : Reply Moves) (a u : ℕ) → Only (λ ((r, a', u') : ℤ × ℕ × ℕ). Decided d a u r a' u')
@@ -56,8 +57,8 @@ determined =
       init = λ n h b. starts-only faithful h b (may n b) (new n b);
       write = λ src h b. did-only faithful h b (write src);
       write-all = λ src h b. did-only faithful h b (writeAll src);
-      read = λ h b out. hands-only faithful h b (read (length out)) _ (said _);
-      read-all = λ h b out. hands-only faithful h b (readAll (length out)) _ (said _);
+      read = λ h b out. fills-only faithful h b (read (length out)) out;
+      read-all = λ h b out. fills-only faithful h b (readAll (length out)) out;
       reset = λ h b. reads-only faithful h b reset;
       close = λ h b. reads-only faithful h b close;
       clear-reset = λ h b. reads-only faithful h b clearReset;

@@ -5,19 +5,19 @@ use mathlib.Core.List.{List, [], _∷_}
 use Prim.Native.Nat.{ℕ}
 use native.Mathlib.Omega.{arith}
 use lib.IntN.{ℤ, pos}
-use lib.ListN.{length, drop, getD}
+use lib.ListN.{length, drop}
 use Rattle.thread.specs.Code.{ok, einval, eagain, epipe, enomsg, ecanceled}
-use Rattle.store.specs.Store.{refuse, accept, answer, reply, Becomes, left}
-use Rattle.store.specs.History.{Step, Made, begun, made}
+use Rattle.store.specs.Store.{refuse, accept, answer, reply, out, Becomes, left}
+use Rattle.store.specs.History.{Step, after as then, Made, begun, made}
 use Rattle.ring_buf.specs.Ring.{wrap, turn}
-use Rattle.pipe.specs.Pipe.{Pipe, write, read, taken}
+use Rattle.pipe.specs.Pipe.{Pipe, write, read}
 use Rattle.pipe.specs.Post.{Starts, object, layout, new, wakes, pends, writeDecision, readDecision}
-use Rattle.pipe.specs.History.{Call, writes, reads, resets, closes, clears, does, gives, got, line, open-by, resetting-by}
+use Rattle.pipe.specs.History.{Call, writes, reads, resets, closes, clears, does, got, line, open-by, resetting-by}
 use Rattle.pipe.specs.HandOver.{flags}
 
+-- of calls, the last stands first
 abbrev after : List Call → Pipe → Pipe
-after [] p = p
-after (k ∷ ks) p = after ks (left (does k p) p)
+after ks p = then (λ p k. left (does k p) p) p ks
 
 abbrev fresh : Pipe
 fresh = new 4 (0 ∷ 0 ∷ 0 ∷ 0 ∷ [])
@@ -29,7 +29,7 @@ abbrev full : Pipe
 full = after (writes (4 ∷ 5 ∷ []) ∷ []) three
 
 abbrev round : Pipe
-round = after (reads 2 ∷ writes (6 ∷ 7 ∷ 8 ∷ []) ∷ []) full
+round = after (writes (6 ∷ 7 ∷ 8 ∷ []) ∷ reads 2 ∷ []) full
 
 -- as many as fit, and as many as there are, round the end
 fitted : answer (write (4 ∷ 5 ∷ []) three) ≡ pos 1
@@ -40,11 +40,11 @@ again : write (6 ∷ []) full ≡ refuse eagain
 unfolding turn
 again = refl
 
-took : taken 2 full ≡ 1 ∷ 2 ∷ []
+took : out (read 2 full) ≡ 1 ∷ 2 ∷ []
 unfolding turn
 took = refl
 
-turned : taken 9 round ≡ 3 ∷ 4 ∷ 6 ∷ 7 ∷ []
+turned : out (read 9 round) ≡ 3 ∷ 4 ∷ 6 ∷ 7 ∷ []
 unfolding turn
 turned = refl
 
@@ -61,15 +61,15 @@ closed-write : write (1 ∷ []) (after (closes ∷ []) three) ≡ refuse epipe
 unfolding turn
 closed-write = refl
 
-closed-read : taken 2 (after (closes ∷ []) three) ≡ 1 ∷ 2 ∷ []
+closed-read : out (read 2 (after (closes ∷ []) three)) ≡ 1 ∷ 2 ∷ []
 unfolding turn
 closed-read = refl
 
-closed-empty : read 1 (after (closes ∷ reads 3 ∷ []) three) ≡ refuse epipe
+closed-empty : read 1 (after (reads 3 ∷ closes ∷ []) three) ≡ refuse epipe
 unfolding turn
 closed-empty = refl
 
-reset-write : write [] (after (closes ∷ resets ∷ []) three) ≡ refuse ecanceled
+reset-write : write [] (after (resets ∷ closes ∷ []) three) ≡ refuse ecanceled
 unfolding turn
 reset-write = refl
 
@@ -77,7 +77,7 @@ reset-read : read 0 (after (resets ∷ []) three) ≡ refuse ecanceled
 unfolding turn
 reset-read = refl
 
-reset-over : taken 4 (after (resets ∷ clears ∷ writes (5 ∷ []) ∷ []) three) ≡ 5 ∷ []
+reset-over : out (read 4 (after (writes (5 ∷ []) ∷ clears ∷ resets ∷ []) three)) ≡ 5 ∷ []
 unfolding turn
 reset-over = refl
 
@@ -104,10 +104,10 @@ steps = after-call (writes (4 ∷ [])) ecanceled [] ∷ after-call resets ok [] 
     (writes (1 ∷ 2 ∷ 3 ∷ [])) (pos 3) [] ∷ []
 
 becomes : {h b h' b' : List ℕ} {p : Pipe} → layout .formed h' b' ≡ true → object h' b' ≡ p → drop 4 h' ≡ drop 4 h
-    → drop (getD h' 0 0) b' ≡ drop (getD h' 0 0) b → (length h' ≡ length h) × (length b' ≡ length b) → Becomes layout p h b h' b'
+    → drop (layout .size h') b' ≡ drop (layout .size h') b → (length h' ≡ length h) × (length b' ≡ length b) → Becomes layout p h b h' b'
 becomes f o w r l = record { formed = f; object = o; beside = w; rest = r; long = l }
 
-ran : Made layout does gives (4 ∷ 0 ∷ 0 ∷ 1 ∷ []) (9 ∷ 9 ∷ 9 ∷ 9 ∷ []) steps (4 ∷ 0 ∷ 0 ∷ 3 ∷ []) written
+ran : Made layout does (4 ∷ 0 ∷ 0 ∷ 1 ∷ []) (9 ∷ 9 ∷ 9 ∷ 9 ∷ []) steps (4 ∷ 0 ∷ 0 ∷ 3 ∷ []) written
 unfolding wrap turn
 ran =
     made {k = writes (4 ∷ [])} {r = ecanceled} {h = 4 ∷ 0 ∷ 0 ∷ 3 ∷ []} {b = written} [] []
@@ -129,20 +129,20 @@ malformed = refl
 
 -- a reader that asks for one byte while two are written: by the decision nothing is held, yet the second byte is left over. So request_len
 -- is to be at most what the reader asks for
-lost-decision : writeDecision 0 4 (flags fresh) 2 true ≡ accept (record { actual = 2; used = 0 }) wakes
+lost-decision : writeDecision 0 4 (flags fresh) 2 true ≡ accept (record { actual = 2; used = 0 }) wakes []
 lost-decision = refl
 
-lost : after (writes (7 ∷ 8 ∷ []) ∷ reads 1 ∷ []) fresh .ring .held ≡ 8 ∷ []
+lost : after (reads 1 ∷ writes (7 ∷ 8 ∷ []) ∷ []) fresh .ring .held ≡ 8 ∷ []
 unfolding turn
 lost = refl
 
-enough : after (writes (7 ∷ 8 ∷ []) ∷ reads 2 ∷ []) fresh .ring .held ≡ []
+enough : after (reads 2 ∷ writes (7 ∷ 8 ∷ []) ∷ []) fresh .ring .held ≡ []
 unfolding turn
 enough = refl
 
 -- a writer that waits at a full pipe
-writer : readDecision 4 4 (flags full) 3 true ≡ accept (record { actual = 3; used = 1 }) wakes
+writer : readDecision 4 4 (flags full) 3 true ≡ accept (record { actual = 3; used = 1 }) wakes []
 writer = refl
 
-pending : writeDecision 4 4 1 2 false ≡ accept (record { actual = 0; used = 4 }) pends
+pending : writeDecision 4 4 1 2 false ≡ accept (record { actual = 0; used = 4 }) pends []
 pending = refl

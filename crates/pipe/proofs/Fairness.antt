@@ -4,8 +4,9 @@ use mathlib.Core.Bool.{false}
 use mathlib.Core.List.{List, [], _∷_}
 use Prim.Native.Nat.{ℕ, _<_}
 use native.Mathlib.Omega.{arith}
+use Rattle.store.specs.History.{after}
 use Rattle.pipe.specs.Post.{new}
-use Rattle.pipe.specs.Waiting.{fresh, waited, Waited, Event, writing, reading, entering, tries, resets, closes, clears, happens, ends}
+use Rattle.pipe.specs.Waiting.{fresh, waited, Waited, Event, writing, reading, entering, tries, resets, closes, clears, happens}
 use Rattle.pipe.specs.Fair.{Fair}
 use Rattle.pipe.proofs.Writing.{write-fair, enter-fair}
 use Rattle.pipe.proofs.Reading.{read-fair}
@@ -57,12 +58,12 @@ module _ (c : ℕ) (some : 0 < c) where
         turns = f .turns;
       }
 
-  pub fair : (es : List Event) (s : Waited) → Fair c s → Fair c (ends s es)
+  pub fair : (es : List Event) (s : Waited) → Fair c s → Fair c (after happens s es)
   fair [] s f = f
-  fair (e ∷ es) s f = fair es (happens s e) (next-fair e s f)
+  fair (e ∷ es) s f = next-fair e (after happens s es) (fair es s f)
 
   -- of a new pipe, where nobody waits
-  pub always-fair : (b : List ℕ) (es : List Event) → Fair c (ends (waited (new c b) [] [] false fresh) es)
+  pub always-fair : (b : List ℕ) (es : List Event) → Fair c (after happens (waited (new c b) [] [] false fresh) es)
   always-fair b es =
       fair es (waited (new c b) [] [] false fresh)
       (record {

@@ -9,17 +9,16 @@ use lib.IntN.{ℤ, pos, negsuc}
 use lib.ListN.{length, take, drop, take-append-drop}
 use lib.Seq.{take-at, length-take-le}
 use Rattle.thread.specs.Code.{ok}
-use Rattle.store.specs.Store.{answer, left, Filled}
+use Rattle.store.specs.Store.{answer, left, out, Filled}
 use Rattle.store.specs.History.{Step, Ran, fresh, ran, Made}
 use Rattle.store.proofs.Laws.{no-code}
-use Rattle.store.proofs.Histories.{from-start}
+use Rattle.store.proofs.Histories.{from-start, throughout}
 use Rattle.seq.specs.List.{All}
-use Rattle.ring_buf.specs.Ring.{append, leave}
 use Rattle.ring_buf.specs.History.{number}
 use Rattle.ring_buf.proofs.Answers.{held-is, spare-is}
-use Rattle.pipe.specs.Pipe.{Pipe, Verdict, never, later, move, moved, done, holding, toWrite, toWriteAll, toRead, toReadAll}
+use Rattle.pipe.specs.Pipe.{Pipe, Verdict, never, later, move, more, less, done, goesIn, comesOut, toWrite, toWriteAll, toRead, toReadAll}
 use Rattle.pipe.specs.Post.{Starts, formed, object, layout, new}
-use Rattle.pipe.specs.History.{Call, writes, writesAll, reads, readsAll, resets, closes, clears, does, gives, got, line, open-by, resetting-by, Whole, Promise}
+use Rattle.pipe.specs.History.{Call, writes, writesAll, reads, readsAll, resets, closes, clears, does, got, line, open-by, resetting-by, Whole, Promise}
 use Rattle.pipe.proofs.Verdicts.{Within, write-within, write-all-within, read-within, read-all-within, Every, write-every, read-every}
 use Rattle.pipe.proofs.Headers.{from-formed}
 
@@ -48,7 +47,7 @@ module _ (n : ℕ) (ss : List (Step Call)) (p : Pipe) (h : Holds n ss p) where
 
   -- a write, by its verdict
   wrote : (l : List ℕ) (v : Verdict) → Within (length l) (p .ring .capacity - length (p .ring .held)) v
-      → let y = done (λ k. holding (append (take k l) (p .ring)) p) v in
+      → let y = goesIn l p v in
       Stands n (open-by ss) (resetting-by ss) (got ss ++ []) (line ss ++ take (number (answer y)) l) (left y p)
   wrote l (never (pos c)) w = absurd w
   wrote l (never (negsuc c)) w = stays
@@ -68,9 +67,8 @@ module _ (n : ℕ) (ss : List (Step Call)) (p : Pipe) (h : Holds n ss p) where
   stood k o o' f e = ap (take k) e ∙ take-at (take k (p .ring .held)) (drop (length (take k (p .ring .held))) o) k (length-take-le k (p .ring .held) f)
 
   -- a read
-  took : (m : ℕ) (o o' : List ℕ) (v : Verdict) → Within m (length (p .ring .held)) v → Filled (take (moved v) (p .ring .held)) o o'
-      → let y = done (λ k. holding (leave k (p .ring)) p) v in
-      Stands n (open-by ss) (resetting-by ss) (got ss ++ take (number (answer y)) o') (line ss ++ []) (left y p)
+  took : (m : ℕ) (o o' : List ℕ) (v : Verdict) → Within m (length (p .ring .held)) v → let y = comesOut p v in Filled (out y) o o'
+      → Stands n (open-by ss) (resetting-by ss) (got ss ++ take (number (answer y)) o') (line ss ++ []) (left y p)
   took m o o' (never (pos c)) w f = absurd w
   took m o o' (never (negsuc c)) w f = stays
   took m o o' later w f = stays
@@ -84,7 +82,7 @@ module _ (n : ℕ) (ss : List (Step Call)) (p : Pipe) (h : Holds n ss p) where
         resetting = h .resetting;
       }
 
-  next : (k : Call) (o o' : List ℕ) → Filled (gives k p) o o' → Holds n (step k (answer (does k p)) o' ∷ ss) (left (does k p) p)
+  next : (k : Call) (o o' : List ℕ) → Filled (out (does k p)) o o' → Holds n (step k (answer (does k p)) o' ∷ ss) (left (does k p) p)
   next (writes l) o o' f = wrote l (toWrite (length l) p) (write-within (length (p .ring .held)) (p .ring .capacity) (p .opened) (p .resetting) (length l))
   next (writesAll l) o o' f =
       wrote l (toWriteAll (length l) p) (write-all-within (length (p .ring .held)) (p .ring .capacity) (p .opened) (p .resetting) (length l))
@@ -97,55 +95,54 @@ module _ (n : ℕ) (ss : List (Step Call)) (p : Pipe) (h : Holds n ss p) where
 
 -- ---- all or nothing
 
-entire : (f : ℕ → Pipe) (n : ℕ) (v : Verdict) → Every n v → (number (answer (done f v)) ≡ n) ⊎ (number (answer (done f v)) ≡ 0)
-entire f n (never (pos c)) e = absurd e
-entire f n (never (negsuc c)) e = inr refl
-entire f n later e = inr refl
-entire f n (move k) e = inl e
+entire : (f : ℕ → Pipe) (o : ℕ → List ℕ) (n : ℕ) (v : Verdict) → Every n v → (number (answer (done f o v)) ≡ n) ⊎ (number (answer (done f o v)) ≡ 0)
+entire f o n (never (pos c)) e = absurd e
+entire f o n (never (negsuc c)) e = inr refl
+entire f o n later e = inr refl
+entire f o n (move k) e = inl e
 
 whole : (k : Call) (p : Pipe) → Whole k (answer (does k p))
 whole (writes l) p = tt
 whole (writesAll l) p =
-    entire (λ k. holding (append (take k l) (p .ring)) p) (length l) (toWriteAll (length l) p)
+    entire (more l p) (λ k. []) (length l) (toWriteAll (length l) p)
     (write-every (length (p .ring .held)) (p .ring .capacity) (p .opened) (p .resetting) (length l))
 whole (reads n) p = tt
 whole (readsAll n) p =
-    entire (λ k. holding (leave k (p .ring)) p) n (toReadAll n p)
+    entire (less p) (λ k. take k (p .ring .held)) n (toReadAll n p)
     (read-every (length (p .ring .held)) (p .ring .capacity) (p .opened) (p .resetting) n)
 whole resets p = tt
 whole closes p = tt
 whole clears p = tt
 
-wholes : {p₀ : Pipe} {ss : List (Step Call)} {p : Pipe} → Ran does gives p₀ ss p → All (λ (s : Step Call). Whole (s .call) (s .answer)) ss
-wholes fresh = tt
-wholes (ran {s = p} {k} o o' x f) = (whole k p, wholes x)
+wholes : {p₀ : Pipe} {ss : List (Step Call)} {p : Pipe} → Ran does p₀ ss p → All (λ (s : Step Call). Whole (s .call) (s .answer)) ss
+wholes = throughout does (λ ss p. All (λ (s : Step Call). Whole (s .call) (s .answer)) ss) (λ k ss p o w. (whole k p, w)) tt
 
 -- what a verdict leaves as it was
-unmoved : (p : Pipe) (f : ℕ → Pipe) (c : ℕ) (v : Verdict) → answer (done f v) ≡ negsuc c → left (done f v) p ≡ p
-unmoved p f c (never z) e = refl
-unmoved p f c later e = refl
-unmoved p f c (move k) e = absurd (let y : _≡_ {A = ℕ} 0 1 = cc in omega arith)
+unmoved : (p : Pipe) (f : ℕ → Pipe) (o : ℕ → List ℕ) (c : ℕ) (v : Verdict) → answer (done f o v) ≡ negsuc c → left (done f o v) p ≡ p
+unmoved p f o c (never z) e = refl
+unmoved p f o c later e = refl
+unmoved p f o c (move k) e = absurd (let y : _≡_ {A = ℕ} 0 1 = cc in omega arith)
 
 refused-stays : (k : Call) (p : Pipe) (c : ℕ) → answer (does k p) ≡ negsuc c → left (does k p) p ≡ p
-refused-stays (writes l) p c e = unmoved p (λ k. holding (append (take k l) (p .ring)) p) c (toWrite (length l) p) e
-refused-stays (writesAll l) p c e = unmoved p (λ k. holding (append (take k l) (p .ring)) p) c (toWriteAll (length l) p) e
-refused-stays (reads n) p c e = unmoved p (λ k. holding (leave k (p .ring)) p) c (toRead n p) e
-refused-stays (readsAll n) p c e = unmoved p (λ k. holding (leave k (p .ring)) p) c (toReadAll n p) e
+refused-stays (writes l) p c e = unmoved p (more l p) (λ k. []) c (toWrite (length l) p) e
+refused-stays (writesAll l) p c e = unmoved p (more l p) (λ k. []) c (toWriteAll (length l) p) e
+refused-stays (reads n) p c e = unmoved p (less p) (λ k. take k (p .ring .held)) c (toRead n p) e
+refused-stays (readsAll n) p c e = unmoved p (less p) (λ k. take k (p .ring .held)) c (toReadAll n p) e
 refused-stays resets p c e = absurd (no-code e)
 refused-stays closes p c e = absurd (no-code e)
 refused-stays clears p c e = absurd (no-code e)
 
 -- ---- after any sequence of calls
 
-holds : (n : ℕ) (b : List ℕ) {ss : List (Step Call)} {p : Pipe} → Ran does gives (new n b) ss p → Holds n ss p
+holds : (n : ℕ) (b : List ℕ) {ss : List (Step Call)} {p : Pipe} → Ran does (new n b) ss p → Holds n ss p
 holds n b fresh = record { order = refl; size = refl; opened = refl; resetting = refl }
 holds n b (ran {ss} {s = p} {k} o o' x f) = next n ss p (holds n b x) k o o' f
 
 -- of a new pipe in memory, after an init that is answered 0
 pub from-init : (n : ℕ) {h b h₀ : List ℕ} → Starts n h b ok h₀ → {ss : List (Step Call)} {h' b' : List ℕ}
-    → Made layout does gives h₀ b ss h' b' → (formed h' b' ≡ true) × Promise n ss (object h' b')
+    → Made layout does h₀ b ss h' b' → (formed h' b' ≡ true) × Promise n ss (object h' b')
 from-init n {b = b} s {ss} {h'} {b'} x =
-    let a = from-start layout does gives s x in
+    let a = from-start layout does s x in
     let m = holds n b (a .1) in
     let f = from-formed h' b' (a .0) in (
       a .0,

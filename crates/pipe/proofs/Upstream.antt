@@ -12,13 +12,12 @@ use Rattle.seq.specs.List.{any}
 use Rattle.thread.specs.Code.{ok, einval}
 use Rattle.store.specs.Store.{accept, answer, Did, looks, left}
 use Rattle.store.specs.History.{Step, Made}
-use Rattle.store.proofs.Laws.{looks-is, looks-bad, answers}
+use Rattle.store.proofs.Laws.{looks-is, looks-bad, answers, kept-bad}
 use Rattle.store.proofs.Histories.{done as after}
-use Rattle.ring_buf.specs.Ring.{append, leave}
 use Rattle.ring_buf.proofs.Answers.{held-is, spare-is}
-use Rattle.pipe.specs.Pipe.{Pipe, Verdict, never, later, move, done, holding, toWrite, toRead, write, read, reset, close}
+use Rattle.pipe.specs.Pipe.{Pipe, Verdict, never, later, move, goesIn, comesOut, toWrite, toRead, write, read, reset, close}
 use Rattle.pipe.specs.Post.{Starts, Writes, Reads, Resets, Closes, ClearsReset, GetsSpace, GetsData, GetsSize, SaysEmpty, SaysFull, SaysOpen, SaysResetting, WriteDecided, ReadDecided, formed, object, layout, size as sizeOf, data-held, space, isEmpty, isFull, flag, goes, proper}
-use Rattle.pipe.specs.History.{Call, writes as writesCall, reads as readsCall, resets, closes, clears, does, gives}
+use Rattle.pipe.specs.History.{Call, writes as writesCall, reads as readsCall, resets, closes, clears, does}
 use Rattle.pipe.specs.HandOver.{used, flags}
 use Rattle.pipe.specs.Upstream.{size, Inv, Err, Init, WriteCheck, ReadCheck, Reset, Close, ClearReset, SpaceGet, DataGet, IsEmpty, IsFull, IsOpen, IsResetting, SizeGet, WriteDecide, ReadDecide, Roundtrip, Conservation, ResetEmpties, CloseClears}
 use Rattle.pipe.proofs.Verdicts.{Within, write-within, read-within, is-proper, write-is, read-is, write-moves, read-moves}
@@ -34,7 +33,7 @@ inv h b f = let s = from-formed h b f in record { some = omega (arith, s .ring .
 
 -- a malformed pipe is refused, and nothing changes
 pub refuses : (k : Call) {h b : List ℕ} {r : ℤ} {h' b' : List ℕ} → formed h b ≡ false → Did layout (does k) h b r h' b' → (r ≡ einval) × ((h' ≡ h) × (b' ≡ b))
-refuses k {h} {b} {r} {h'} {b'} f d = let a = d .after in (d .code ∙ rw f refl, rw f at a)
+refuses k {h} {b} f d = let a = kept-bad layout (does k) h b d f in (a .0, (a .1, a .2))
 
 -- ---- init
 
@@ -60,39 +59,27 @@ pipe-init n {h} {b} {r} {h'} w room s =
 -- ---- write_check and read_check
 
 module _ (l : List ℕ) (p : Pipe) where
-  abbrev q : ℕ → Pipe
-  q k = holding (append (take k l) (p .ring)) p
+  -- a refusal
+  write-none : (c : ℕ) → Inv p → WriteCheck (length l) p (negsuc c) p
+  write-none c i =
+      record {
+        inv = i;
+        sized = refl;
+        closed = λ o k e. no-number e;
+        resetting = λ r k e. no-number e;
+        some = λ k e. absurd (no-number e);
+        few = λ k e. absurd (no-number e);
+        more = λ k e. absurd (no-number e);
+        under = λ k e. absurd (no-number e);
+        kept = λ e. refl;
+      }
 
-  wrote : (v : Verdict) → Within (length l) (size p - used p) v → (p .opened ≡ false → Err (answer (done q v)))
-      → (p .resetting ≡ true → Err (answer (done q v)))
-      → Inv (left (done q v) p) → WriteCheck (length l) p (answer (done q v)) (left (done q v) p)
+  wrote : (v : Verdict) → Within (length l) (size p - used p) v → (p .opened ≡ false → Err (answer (goesIn l p v)))
+      → (p .resetting ≡ true → Err (answer (goesIn l p v)))
+      → Inv (left (goesIn l p v) p) → WriteCheck (length l) p (answer (goesIn l p v)) (left (goesIn l p v) p)
   wrote (never (pos c)) w o r i = absurd w
-  wrote (never (negsuc c)) w o r i =
-      record {
-        inv = i;
-        sized = refl;
-        closed = o;
-        resetting = r;
-        some = λ k e. absurd (no-number e);
-        few = λ k e. absurd
-            (no-number e);
-        more = λ k e. absurd (no-number e);
-        under = λ k e. absurd (no-number e);
-        kept = λ e. refl;
-      }
-  wrote later w o r i =
-      record {
-        inv = i;
-        sized = refl;
-        closed = o;
-        resetting = r;
-        some = λ k e. absurd (no-number e);
-        few = λ k e. absurd
-            (no-number e);
-        more = λ k e. absurd (no-number e);
-        under = λ k e. absurd (no-number e);
-        kept = λ e. refl;
-      }
+  wrote (never (negsuc c)) w o r i = write-none c i
+  wrote later w o r i = write-none 10 i
   wrote (move n) w o r i =
       let m = length-append (p .ring .held) (take n l) in
       let t = length-take n l in
@@ -119,34 +106,23 @@ module _ (l : List ℕ) (p : Pipe) where
   resetting-errs e k x = no-number (rw e at x)
 
 module _ (n : ℕ) (p : Pipe) where
-  abbrev g : ℕ → Pipe
-  g k = holding (leave k (p .ring)) p
+  read-none : (c : ℕ) → Inv p → ReadCheck n p (negsuc c) p
+  read-none c i =
+      record {
+        inv = i;
+        sized = refl;
+        resetting = λ r k e. no-number e;
+        some = λ k e. absurd (no-number e);
+        few = λ k e. absurd (no-number e);
+        fewer = λ k e. absurd (no-number e);
+        kept = λ e. refl;
+      }
 
-  took : (v : Verdict) → Within n (used p) v → (p .resetting ≡ true → Err (answer (done g v))) → Inv (left (done g v) p)
-      → ReadCheck n p (answer (done g v)) (left (done g v) p)
+  took : (v : Verdict) → Within n (used p) v → (p .resetting ≡ true → Err (answer (comesOut p v))) → Inv (left (comesOut p v) p)
+      → ReadCheck n p (answer (comesOut p v)) (left (comesOut p v) p)
   took (never (pos c)) w r i = absurd w
-  took (never (negsuc c)) w r i =
-      record {
-        inv = i;
-        sized = refl;
-        resetting = r;
-        some = λ k e. absurd (no-number e);
-        few = λ k e. absurd (no-number e);
-        fewer = λ k e. absurd
-            (no-number e);
-        kept = λ e. refl;
-      }
-  took later w r i =
-      record {
-        inv = i;
-        sized = refl;
-        resetting = r;
-        some = λ k e. absurd (no-number e);
-        few = λ k e. absurd (no-number e);
-        fewer = λ k e. absurd
-            (no-number e);
-        kept = λ e. refl;
-      }
+  took (never (negsuc c)) w r i = read-none c i
+  took later w r i = read-none 10 i
   took (move m) w r i =
       let d = length-drop m (p .ring .held) in
       record {
@@ -260,7 +236,7 @@ module _ (u s f n : ℕ) (w : Bool) {a c : ℕ} {r : ℤ} {a' c' : ℕ} where
 -- ---- lemmas
 
 -- lemma_invariant_inductive ends in `ensures true`: the invariant holds after any sequence of calls of a new pipe
-pub invariant-inductive : (n : ℕ) {h b h₀ : List ℕ} → Starts n h b ok h₀ → {ss : List (Step Call)} {h' b' : List ℕ} → Made layout does gives h₀ b ss h' b'
+pub invariant-inductive : (n : ℕ) {h b h₀ : List ℕ} → Starts n h b ok h₀ → {ss : List (Step Call)} {h' b' : List ℕ} → Made layout does h₀ b ss h' b'
     → Inv (object h' b')
 invariant-inductive n s {h' = h'} {b' = b'} x = inv h' b' (from-init n s x .0)
 
@@ -273,7 +249,7 @@ write-read-roundtrip u s n some k fit =
       back = z;
       write = write-is u s 1 n false (is-proper u s 1 some (omega arith) (omega arith)) (write-moves u s 1 n refl k (omega arith) ∙ ap move x);
       read = read-is (u + n) s 1 n false (is-proper (u + n) s 1 some fit (omega arith))
-          (read-moves (u + n) s 1 n (omega arith) k (omega arith) ∙ ap move y) ∙ ap (λ (j : ℕ). accept (record { actual = n; used = j }) goes) z;
+          (read-moves (u + n) s 1 n (omega arith) k (omega arith) ∙ ap move y) ∙ ap (λ (j : ℕ). accept (record { actual = n; used = j }) goes []) z;
     }
 
 pub reset-empties : (p : Pipe) → ResetEmpties p

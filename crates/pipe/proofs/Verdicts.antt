@@ -1,6 +1,7 @@
 -- What becomes of a write and a read, by the flags and the numbers. Assumes nothing.
 use mathlib.Core.Path.{_≡_, refl, sym, ap, subst, _∙_}
 use mathlib.Core.Bool.{Bool, true, false, cond}
+use mathlib.Core.List.{[]}
 use Prim.Native.Nat.{ℕ, _+_, _-_, _≤_, _<_, min}
 use native.Mathlib.Omega.{arith}
 use borrow.Author.Tests.{lt-ltb, le-ltb, lt-leb, le-leb, leb-true, ltb-true, ltb-false, eq-eqb, ne-eqb, eqb-false}
@@ -12,7 +13,7 @@ use Rattle.seq.proofs.Order.{clash}
 use Rattle.store.proofs.Laws.{both-true}
 use Rattle.ring_buf.proofs.Rings.{by-lt}
 use Rattle.pipe.specs.Pipe.{Verdict, never, later, move, wholly, once, writes, writesAll, reads, readsAll}
-use Rattle.pipe.specs.Post.{WriteDecided, WriteAllDecided, ReadDecided, ReadAllDecided, isOpen, isResetting, Moves, goes, wakes, pends, decided, proper, behind, writeDecision, writeAllDecision, readDecision, readAllDecision, Decided}
+use Rattle.pipe.specs.Post.{WriteDecided, WriteAllDecided, ReadDecided, ReadAllDecided, isOpen, isResetting, Moves, goes, wakes, pends, decided, proper, heldThen, writeDecision, writeAllDecision, readDecision, readAllDecision, Decided}
 
 pub resetting-on : (f : ℕ) → 2 ≤ f → f ≤ 3 → isResetting f ≡ true
 resetting-on f h k = by-lt f 3 (λ l. rw (eq-eqb f 2 (omega arith))) (λ l. rw (eq-eqb f 3 (omega arith), ne-eqb f 2 (λ e. omega arith)))
@@ -204,7 +205,7 @@ module _ {d : Reply Moves} {a u : ℕ} where
   decided-no : {c : ℤ} → d ≡ refuse c → Decided d a u c a u
   decided-no e = rw e (record { code = refl; actual = refl; used = refl })
 
-  decided-yes : {m : Moves} {r : ℤ} → d ≡ accept m r → Decided d a u r (m .actual) (m .used)
+  decided-yes : {m : Moves} {r : ℤ} → d ≡ accept m r [] → Decided d a u r (m .actual) (m .used)
   decided-yes e = rw e (record { code = refl; actual = refl; used = refl })
 
 pub record Proper (used size f : ℕ) : Type 0 where
@@ -232,8 +233,9 @@ module _ (used size f : ℕ) where
       record { some-size = ltb-true 0 size (x .0); under = leb-true used size (y .0); flags = leb-true f 3 (y .1) }
 
 module _ (used size f n : ℕ) (w : Bool) where
-  pub write-is : {v : Verdict} → proper used size f ≡ true → writes used size (isOpen f) (isResetting f) n ≡ v → writeDecision used size f n w ≡ decided used (cond w wakes goes) (behind w used) v
-  write-is p e = rw p (ap (decided used (cond w wakes goes) (behind w used)) e)
+  pub write-is : {v : Verdict} → proper used size f ≡ true → writes used size (isOpen f) (isResetting f) n ≡ v
+      → writeDecision used size f n w ≡ decided used (cond w wakes goes) (heldThen w used) v
+  write-is p e = rw p (ap (decided used (cond w wakes goes) (heldThen w used)) e)
 
   pub read-is : {v : Verdict} → proper used size f ≡ true → reads used (isOpen f) (isResetting f) n ≡ v → readDecision used size f n w ≡ decided used (cond w wakes goes) (λ k. used - k) v
   read-is p e = rw p (ap (decided used (cond w wakes goes) (λ k. used - k)) e)

@@ -6,9 +6,8 @@ use Prim.Native.Nat.{ℕ, _+_, _-_, _≤_, _<_, min}
 use native.Mathlib.Omega.{arith}
 use lib.ListN.{length, take, drop, length-append, length-take, drop-of-length-le}
 use Rattle.seq.specs.List.{All}
-use Rattle.store.specs.Store.{Reply}
-use Rattle.ring_buf.specs.Ring.{append, leave}
-use Rattle.pipe.specs.Pipe.{Pipe, holding, taken}
+use Rattle.store.specs.Store.{Reply, out}
+use Rattle.pipe.specs.Pipe.{Pipe, more, less, read}
 use Rattle.pipe.specs.Post.{Moves}
 use Rattle.pipe.specs.HandOver.{used}
 use Rattle.pipe.specs.Waiting.{Books, enters, feeds, waited, Waited, Try, tries, wanted, decision, filled, drained, wrote, queued, told, happens}
@@ -51,7 +50,7 @@ module _ (c : ℕ) (some : 0 < c) where
         pub into : Fair c (at [] w) → n ≤ p .ring .capacity - used p → Cut ((bk .went ++ take n l ∷ []) ++ w') cs'
             → Fair c (wrote 0 l n w' (recalled cs' bk) (at [] w))
         into f m t =
-            let q = holding (append (take n l) (p .ring)) p in
+            let q = more l p n in
             let u : used q ≡ used p + n = length-append (p .ring .held) (take n l) ∙ omega (arith, length-take n l) in
             subst (λ (y : Pipe). Fair c (waited y [] w' b (enters (take n l) (recalled cs' bk)))) (sym (fills p o e l n k h m))
             (record {
@@ -71,12 +70,13 @@ module _ (c : ℕ) (some : 0 < c) where
         pub hand : (a : ℕ) (r : List ℕ) → Fair c (at (a ∷ r) w) → n ≤ p .ring .capacity - used p → n ≤ a → Cut ((bk .went ++ take n l ∷ []) ++ w') cs'
             → Fair c (wrote 1 l n w' (recalled cs' bk) (at (a ∷ r) w))
         hand a r f m j t =
-            let q = holding (append (take n l) (p .ring)) p in
+            let q = more l p n in
             let i : used p ≡ 0 = ap length (f .no-byte (omega arith)) in
             let u : used q ≡ n = length-append (p .ring .held) (take n l) ∙ omega (arith, length-take n l) in
             let x = fills p o e l n k h m in
-            let y : drained a (filled l n p) ≡ holding (leave (min a (used q)) (q .ring)) q = ap (drained a) x ∙ drains q e a (omega arith) (omega arith) in
-            let d : taken a (filled l n p) ≡ take (min a (used q)) (q .ring .held) = ap (taken a) x ∙ takes q e a (omega arith) (omega arith) in
+            let y : drained a (filled l n p) ≡ less q (min a (used q)) = ap (drained a) x ∙ drains q e a (omega arith) (omega arith) in
+            let d : out (read a (filled l n p)) ≡ take (min a (used q)) (q .ring .held) =
+            ap (λ (q : Pipe). out (read a q)) x ∙ takes q e a (omega arith) (omega arith) in
             let v' = length-take (min a (used q)) (q .ring .held) in
             let gone : drop (min a (used q)) (q .ring .held) ≡ [] = drop-of-length-le (q .ring .held) {i = min a (used q)} (omega arith) in
             subst (Fair c) (sym (λ i. waited (y i) r w' b (feeds (d i) (enters (take n l) (recalled cs' bk)))))

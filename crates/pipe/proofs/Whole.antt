@@ -1,27 +1,19 @@
 -- All or nothing. Assumes nothing.
 use mathlib.Core.Path.{_≡_, refl, sym, ap, _∙_}
-use mathlib.Core.Bool.{Bool, true, false}
+use mathlib.Core.Bool.{true, false}
 use mathlib.Core.List.{List}
 use Prim.Native.Nat.{ℕ, _-_, _≤_, _<_}
 use native.Mathlib.Omega.{arith}
 use borrow.Author.Tests.{lt-ltb, le-ltb}
-use lib.ListN.{length, take}
+use lib.ListN.{length}
 use Rattle.seq.proofs.Order.{clash}
 use Rattle.thread.specs.Code.{einval, epipe}
-use Rattle.store.specs.Store.{Reply}
-use Rattle.ring_buf.specs.Ring.{append, leave}
-use Rattle.pipe.specs.Pipe.{Pipe, Verdict, never, later, moved, once, writesAll, readsAll, done, holding, toWrite, toWriteAll, toRead, toReadAll}
+use Rattle.pipe.specs.Pipe.{Pipe, never, later, once, goesIn, comesOut, toWrite, toWriteAll, toRead, toReadAll}
 use Rattle.pipe.specs.HandOver.{used}
 use Rattle.pipe.specs.Whole.{AllOrNothing}
 use Rattle.pipe.proofs.Verdicts.{whole-write, whole-read, write-all-not, read-all-not}
 
 module _ (l : List ℕ) (n : ℕ) (p : Pipe) where
-  abbrev wrote : Verdict → Reply Pipe
-  wrote v = done (λ k. holding (append (take k l) (p .ring)) p) v
-
-  abbrev took : Verdict → Reply Pipe
-  took v = done (λ k. holding (leave k (p .ring)) p) v
-
   same-write : (p .opened ≡ true → p .resetting ≡ false → length l ≤ p .ring .capacity - used p) → toWriteAll (length l) p ≡ toWrite (length l) p
   same-write h = whole-write (used p) (p .ring .capacity) (length l) (p .opened) (p .resetting) h
 
@@ -47,14 +39,14 @@ module _ (l : List ℕ) (n : ℕ) (p : Pipe) where
   pub all-or-nothing : AllOrNothing l n p
   all-or-nothing =
       record {
-        write-fits = λ h. ap wrote (same-write (λ o r. h));
-        write-closed = λ c. ap wrote (same-write (λ o r. clash (sym o ∙ c)));
-        write-resetting = λ c. ap wrote (same-write (λ o r. clash (sym c ∙ r)));
-        write-later = λ o r k m. ap wrote (too-long o r k ∙ is-later (p .ring .capacity) (length l) m);
-        write-never = λ o r k. ap wrote (too-long o r (omega arith) ∙ is-never (p .ring .capacity) (length l) k);
-        read-fits = λ h. (ap took (same-read (λ r. h)), ap (λ (v : Verdict). take (moved v) (p .ring .held)) (same-read (λ r. h)));
-        read-resetting = λ c. ap took (same-read (λ r. clash (sym c ∙ r)));
-        read-later = λ o r k m. ap took (too-few o r k ∙ is-later (p .ring .capacity) n m);
-        read-never = λ o r k m. ap took (too-few o r k ∙ is-never (p .ring .capacity) n m);
-        read-closed = λ o r k. ap took (no-more o r k);
+        write-fits = λ h. ap (goesIn l p) (same-write (λ o r. h));
+        write-closed = λ c. ap (goesIn l p) (same-write (λ o r. clash (sym o ∙ c)));
+        write-resetting = λ c. ap (goesIn l p) (same-write (λ o r. clash (sym c ∙ r)));
+        write-later = λ o r k m. ap (goesIn l p) (too-long o r k ∙ is-later (p .ring .capacity) (length l) m);
+        write-never = λ o r k. ap (goesIn l p) (too-long o r (omega arith) ∙ is-never (p .ring .capacity) (length l) k);
+        read-fits = λ h. ap (comesOut p) (same-read (λ r. h));
+        read-resetting = λ c. ap (comesOut p) (same-read (λ r. clash (sym c ∙ r)));
+        read-later = λ o r k m. ap (comesOut p) (too-few o r k ∙ is-later (p .ring .capacity) n m);
+        read-never = λ o r k m. ap (comesOut p) (too-few o r k ∙ is-never (p .ring .capacity) n m);
+        read-closed = λ o r k. ap (comesOut p) (no-more o r k);
       }

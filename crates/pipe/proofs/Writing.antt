@@ -29,8 +29,8 @@ module _ (c : ℕ) (some : 0 < c) (p : Pipe) (b : Bool) (bk : Books) where
       where
         go : (d : Reply Moves) → Fair c (told (writing (y ∷ l) k) d (at r (x ∷ w)))
         go (refuse z) = f
-        go (accept m (pos z)) = waits c some p b bk e o r (x ∷ w) (y ∷ l) k (omega arith) (λ d. f .no-room (omega arith) d) f
-        go (accept m (negsuc z)) = f
+        go (accept m (pos z) q) = waits c some p b bk e o r (x ∷ w) (y ∷ l) k (omega arith) (λ d. f .no-room (omega arith) d) f
+        go (accept m (negsuc z) q) = f
     write-open [] [] (y ∷ l) k f =
         let n = min (length (y ∷ l)) (p .ring .capacity - used p) in
         by-lt (used p) c

@@ -12,7 +12,7 @@ use Rattle.store.specs.Store.{Reply, accept, answer, left}
 use Rattle.store.specs.History.{Step}
 use Rattle.ring_buf.specs.Ring.{leave}
 use Rattle.ring_buf.specs.History.{accepted, number}
-use Rattle.pipe.specs.Pipe.{Pipe, holding, write, writeAll, read, readAll, taken, takenAll, reset, close, clearReset}
+use Rattle.pipe.specs.Pipe.{Pipe, holding, write, writeAll, read, readAll, reset, close, clearReset}
 
 -- a write of these bytes, as many as there is room for, or all or none; a read with room for so many, alike
 pub data Call : Type 0 where
@@ -28,16 +28,6 @@ does (readsAll n) = readAll n
 does resets = reset
 does closes = close
 does clears = clearReset
-
--- the bytes that a call hands out
-abbrev pub gives : Call → Pipe → List ℕ
-gives (writes l) p = []
-gives (writesAll l) p = []
-gives (reads n) p = taken n p
-gives (readsAll n) p = takenAll n p
-gives resets p = []
-gives closes p = []
-gives clears p = []
 
 -- ---- from a call, its answer and its place for what is handed out
 
@@ -145,9 +135,8 @@ pub record Closed (ss : List (Step Call)) (p : Pipe) : Type 0 where
   pub unwritten : All (λ (s : Step Call). putBy (s .call) (s .answer) ≡ []) ss
 
 -- what is held can be read, closed or not
-pub record Readable (n : ℕ) (p : Pipe) : Type 0 where
-  pub bytes : taken n p ≡ take n (p .ring .held)
-  pub done : read n p ≡ accept (holding (leave (min n (length (p .ring .held))) (p .ring)) p) (pos (min n (length (p .ring .held))))
+abbrev pub Readable : ℕ → Pipe → Type 0
+Readable n p = let k = min n (length (p .ring .held)) in read n p ≡ accept (holding (leave k (p .ring)) p) (pos k) (take n (p .ring .held))
 
 -- the calls that end a reset, and no other
 abbrev pub Ends : Call → Type 0

@@ -1,6 +1,6 @@
 -- The pipe: bytes in a ring, first in first out, and whether it is open and whether it is being reset.
 use mathlib.Core.Bool.{Bool, true, false, cond}
-use mathlib.Core.List.{List}
+use mathlib.Core.List.{List, []}
 use Prim.Native.Nat.{ℕ, _-_, min}
 use lib.Dec.{ltb, eqb}
 use lib.IntN.{ℤ, pos}
@@ -52,18 +52,6 @@ writesAll used size opened resetting n = wholly n (once size n) (writes used siz
 abbrev pub readsAll : ℕ → ℕ → Bool → Bool → ℕ → Verdict
 readsAll used size opened resetting n = wholly n (cond opened (once size n) (never epipe)) (reads used opened resetting n)
 
--- how many bytes move
-abbrev pub moved : Verdict → ℕ
-moved (never c) = 0
-moved later = 0
-moved (move n) = n
-
--- done to a pipe: the answer is the number of bytes, and -11 if it has to be tried again
-abbrev pub done : (ℕ → Pipe) → Verdict → Reply Pipe
-done f (never c) = refuse c
-done f later = refuse eagain
-done f (move n) = accept (f n) (pos n)
-
 -- the pipe with another ring
 abbrev pub holding : Ring ℕ → Pipe → Pipe
 holding r p = record { opened = p .opened; resetting = p .resetting; ring = r }
@@ -80,37 +68,48 @@ toWriteAll n p = writesAll (length (p .ring .held)) (p .ring .capacity) (p .open
 abbrev pub toReadAll : ℕ → Pipe → Verdict
 toReadAll n p = readsAll (length (p .ring .held)) (p .ring .capacity) (p .opened) (p .resetting) n
 
--- the first of l go behind what is held
+-- so many of the first of l go behind what is held; so many of the first that are held leave
+abbrev pub more : List ℕ → Pipe → ℕ → Pipe
+more l p k = holding (append (take k l) (p .ring)) p
+
+abbrev pub less : Pipe → ℕ → Pipe
+less p k = holding (leave k (p .ring)) p
+
+-- by a verdict: the answer is the number of bytes, and -11 if it has to be tried again; o is what is handed out
+abbrev pub done : (ℕ → Pipe) → (ℕ → List ℕ) → Verdict → Reply Pipe
+done f o (never c) = refuse c
+done f o later = refuse eagain
+done f o (move k) = accept (f k) (pos k) (o k)
+
+abbrev pub goesIn : List ℕ → Pipe → Verdict → Reply Pipe
+goesIn l p v = done (more l p) (λ k. []) v
+
+-- what leaves is handed out
+abbrev pub comesOut : Pipe → Verdict → Reply Pipe
+comesOut p v = done (less p) (λ k. take k (p .ring .held)) v
+
+-- a write of l: as many as there is room for, or all or none
 abbrev pub write : List ℕ → Pipe → Reply Pipe
-write l p = done (λ k. holding (append (take k l) (p .ring)) p) (toWrite (length l) p)
+write l p = goesIn l p (toWrite (length l) p)
 
--- all of l, or none
 abbrev pub writeAll : List ℕ → Pipe → Reply Pipe
-writeAll l p = done (λ k. holding (append (take k l) (p .ring)) p) (toWriteAll (length l) p)
+writeAll l p = goesIn l p (toWriteAll (length l) p)
 
--- the first that are held leave
+-- a read of n bytes: as many as there are, or all or none
 abbrev pub read : ℕ → Pipe → Reply Pipe
-read n p = done (λ k. holding (leave k (p .ring)) p) (toRead n p)
+read n p = comesOut p (toRead n p)
 
--- n of them, or none
 abbrev pub readAll : ℕ → Pipe → Reply Pipe
-readAll n p = done (λ k. holding (leave k (p .ring)) p) (toReadAll n p)
-
--- the bytes that a read hands out
-abbrev pub taken : ℕ → Pipe → List ℕ
-taken n p = take (moved (toRead n p)) (p .ring .held)
-
-abbrev pub takenAll : ℕ → Pipe → List ℕ
-takenAll n p = take (moved (toReadAll n p)) (p .ring .held)
+readAll n p = comesOut p (toReadAll n p)
 
 -- nothing is held; neither a write nor a read until the reset is over
 abbrev pub reset : Pipe → Reply Pipe
-reset p = accept (record { opened = p .opened; resetting = true; ring = clear (p .ring) }) ok
+reset p = accept (record { opened = p .opened; resetting = true; ring = clear (p .ring) }) ok []
 
 -- the bytes stay; a reset is over, too
 abbrev pub close : Pipe → Reply Pipe
-close p = accept (record { opened = false; resetting = false; ring = p .ring }) ok
+close p = accept (record { opened = false; resetting = false; ring = p .ring }) ok []
 
 -- the reset is over
 abbrev pub clearReset : Pipe → Reply Pipe
-clearReset p = accept (record { opened = p .opened; resetting = false; ring = p .ring }) ok
+clearReset p = accept (record { opened = p .opened; resetting = false; ring = p .ring }) ok []

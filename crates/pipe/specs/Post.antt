@@ -2,15 +2,17 @@
 -- each function does.
 use mathlib.Core.Path.{_≡_}
 use mathlib.Core.Bool.{Bool, true, false, cond}
-use mathlib.Core.List.{List}
+use mathlib.Core.List.{List, []}
 use Prim.Native.Nat.{ℕ, _+_, _-_}
 use lib.Dec.{eqb, ltb, leb}
 use lib.IntN.{ℤ, pos}
-use lib.ListN.{length, getD}
+use lib.ListN.{length}
 use Rattle.thread.specs.Code.{einval}
 use Rattle.store.specs.Store.{Reply, refuse, accept, answer, settled, Place, Did, looks, Fills, Started}
-use Rattle.ring_buf.specs.Bytes.{sound, held, new as newRing, may, sizeOf, spaceOf, capacityOf, empty, full}
-use Rattle.pipe.specs.Pipe.{Pipe, Verdict, never, later, move, writes, writesAll, reads, readsAll, write, writeAll, read, readAll, taken, takenAll, reset, close, clearReset}
+use Rattle.store.specs.Product.{_⊗_, behind, word, shaped}
+use Rattle.ring_buf.specs.Ring.{Ring}
+use Rattle.ring_buf.specs.Bytes.{bytes, new as newRing, may, sizeOf, spaceOf, capacityOf, empty, full}
+use Rattle.pipe.specs.Pipe.{Pipe, Verdict, never, later, move, writes, writesAll, reads, readsAll, write, writeAll, read, readAll, reset, close, clearReset}
 
 -- 0: closed; 1: open; 2: closed and resetting; 3: open and resetting
 abbrev pub isOpen : ℕ → Bool
@@ -19,15 +21,21 @@ isOpen f = cond (eqb f 1) true (eqb f 3)
 abbrev pub isResetting : ℕ → Bool
 isResetting f = cond (eqb f 2) true (eqb f 3)
 
--- the first three words are a ring's header
-abbrev pub formed : List ℕ → List ℕ → Bool
-formed h b = cond (leb 4 (length h)) (cond (leb (getD h 3 0) 3) (sound h b) false) false
+abbrev pub flags : Place ℕ
+flags = word (λ f. leb f 3)
 
-abbrev pub object : List ℕ → List ℕ → Pipe
-object h b = record { opened = isOpen (getD h 3 0); resetting = isResetting (getD h 3 0); ring = held h b }
+-- the first three words and the buffer are a ring; the flags are the word behind them
+abbrev pub ofParts : Ring ℕ × ℕ → Pipe
+ofParts (r, f) = record { opened = isOpen f; resetting = isResetting f; ring = r }
 
 abbrev pub layout : Place Pipe
-layout = record { words = 4; size = λ h. getD h 0 0; object = object; formed = formed }
+layout = shaped ofParts (bytes ⊗ behind 3 flags)
+
+abbrev pub formed : List ℕ → List ℕ → Bool
+formed = layout .formed
+
+abbrev pub object : List ℕ → List ℕ → Pipe
+object = layout .object
 
 -- a new pipe of n bytes
 abbrev pub new : ℕ → List ℕ → Pipe
@@ -73,22 +81,22 @@ pends = pos 2
 -- by the pipe's own verdict; r is the answer if bytes move, and f how many are held then
 abbrev pub decided : ℕ → ℤ → (ℕ → ℕ) → Verdict → Reply Moves
 decided used r f (never c) = refuse c
-decided used r f later = accept (record { actual = 0; used = used }) pends
-decided used r f (move n) = accept (record { actual = n; used = f n }) r
+decided used r f later = accept (record { actual = 0; used = used }) pends []
+decided used r f (move n) = accept (record { actual = n; used = f n }) r []
 
 -- numbers that a pipe can have
 abbrev pub proper : ℕ → ℕ → ℕ → Bool
 proper used size flags = cond (ltb 0 size) (cond (leb used size) (leb flags 3) false) false
 
 -- how many are held when k more went in. A reader waits and nothing is held: they went straight to it; else behind what is held
-abbrev pub behind : Bool → ℕ → ℕ → ℕ
-behind reader used k = cond reader (cond (eqb used 0) 0 (used + k)) (used + k)
+abbrev pub heldThen : Bool → ℕ → ℕ → ℕ
+heldThen reader used k = cond reader (cond (eqb used 0) 0 (used + k)) (used + k)
 
 -- as the pipe itself decides, whoever waits: a reader that waits is woken if bytes move
 abbrev pub writeDecision : ℕ → ℕ → ℕ → ℕ → Bool → Reply Moves
 writeDecision used size flags n reader =
     cond (proper used size flags)
-    (decided used (cond reader wakes goes) (behind reader used) (writes used size (isOpen flags) (isResetting flags) n))
+    (decided used (cond reader wakes goes) (heldThen reader used) (writes used size (isOpen flags) (isResetting flags) n))
     (refuse einval)
 
 -- alike: a writer that waits is woken, to write after the read
@@ -102,7 +110,7 @@ readDecision used size flags n writer =
 abbrev pub writeAllDecision : ℕ → ℕ → ℕ → ℕ → Bool → Reply Moves
 writeAllDecision used size flags n reader =
     cond (proper used size flags)
-    (decided used (cond reader wakes goes) (behind reader used) (writesAll used size (isOpen flags) (isResetting flags) n))
+    (decided used (cond reader wakes goes) (heldThen reader used) (writesAll used size (isOpen flags) (isResetting flags) n))
     (refuse einval)
 
 abbrev pub readAllDecision : ℕ → ℕ → ℕ → ℕ → Bool → Reply Moves
@@ -133,11 +141,11 @@ WritesAll src h b r h' b' = Did layout (writeAll src) h b r h' b'
 
 -- the first bytes that are held come out, as many as out has room for
 abbrev pub Reads : List ℕ → List ℕ → List ℕ → ℤ → List ℕ → List ℕ → Type 0
-Reads h b out r h' out' = Fills layout (read (length out)) (taken (length out)) h b out r h' out'
+Reads h b out r h' out' = Fills layout (read (length out)) h b out r h' out'
 
 -- as many as out has room for, or none
 abbrev pub ReadsAll : List ℕ → List ℕ → List ℕ → ℤ → List ℕ → List ℕ → Type 0
-ReadsAll h b out r h' out' = Fills layout (readAll (length out)) (takenAll (length out)) h b out r h' out'
+ReadsAll h b out r h' out' = Fills layout (readAll (length out)) h b out r h' out'
 
 abbrev pub Resets : List ℕ → List ℕ → ℤ → List ℕ → Type 0
 Resets h b r h' = Did layout reset h b r h' b

@@ -2,6 +2,7 @@
 -- Ok(n) is the answer n, and Err(e) the answer e, which is below 0.
 use mathlib.Core.Path.{_≡_}
 use mathlib.Core.Bool.{true, false}
+use mathlib.Core.List.{[]}
 use Prim.Native.Nat.{ℕ, _+_, _-_, _≤_, _<_}
 use lib.Dec.{eqb}
 use lib.IntN.{ℤ, pos}
@@ -159,8 +160,8 @@ pub record Roundtrip (u s n : ℕ) : Type 0 where
   -- (used + n) - n == used
   pub back : u + n - n ≡ u
   -- its comment: write n, then read n
-  pub write : writeDecision u s 1 n false ≡ accept (record { actual = n; used = u + n }) goes
-  pub read : readDecision (u + n) s 1 n false ≡ accept (record { actual = n; used = u }) goes
+  pub write : writeDecision u s 1 n false ≡ accept (record { actual = n; used = u + n }) goes []
+  pub read : readDecision (u + n) s 1 n false ≡ accept (record { actual = n; used = u }) goes []
 
 -- lemma_conservation: (size - used) + used == size; of a pipe, what is free and what is held
 pub record Conservation (p : Pipe) : Type 0 where
@@ -171,11 +172,11 @@ pub record Conservation (p : Pipe) : Type 0 where
 pub record ResetEmpties (p : Pipe) : Type 0 where
   pub under : 0 ≤ size p
   pub after : Pipe
-  pub done : reset p ≡ accept after ok
+  pub done : reset p ≡ accept after ok []
   pub empty : used after ≡ 0
 
 -- lemma_close_clears_flags says that 0 == 0. What its comment says: a close clears all flags
 pub record CloseClears (p : Pipe) : Type 0 where
   pub after : Pipe
-  pub done : close p ≡ accept after ok
+  pub done : close p ≡ accept after ok []
   pub cleared : flags after ≡ 0

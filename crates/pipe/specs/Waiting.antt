@@ -5,8 +5,8 @@ use Prim.Native.Nat.{ℕ, zero, suc, min}
 use lib.IntN.{pos, negsuc}
 use lib.ListN.{length, take, drop, getD}
 use Rattle.seq.specs.List.{any}
-use Rattle.store.specs.Store.{Reply, refuse, accept, left}
-use Rattle.pipe.specs.Pipe.{Pipe, write, read, taken, reset, close, clearReset}
+use Rattle.store.specs.Store.{Reply, refuse, accept, left, out}
+use Rattle.pipe.specs.Pipe.{Pipe, write, read, reset, close, clearReset}
 use Rattle.pipe.specs.Post.{Moves, writeDecision, readDecision}
 use Rattle.pipe.specs.HandOver.{used, flags}
 
@@ -90,7 +90,7 @@ feeds x b = record { called = b .called; went = b .went; got = b .got ++ x; begg
 
 -- the first reader that waits reads
 abbrev pub fed-first : List ℕ → Pipe → List (List ℕ) → Bool → Books → Waited
-fed-first readers p w x b = waited (drained (getD readers 0 0) p) (drop 1 readers) w x (feeds (taken (getD readers 0 0) p) b)
+fed-first readers p w x b = waited (drained (getD readers 0 0) p) (drop 1 readers) w x (feeds (out (read (getD readers 0 0) p)) b)
 
 -- the writer of l is told n. Answer 0: its bytes go into the pipe. 1: so they do, and then the first reader that waits reads: if nothing was held, it is
 -- handed these bytes, and nothing is held then. w: who waits then
@@ -110,7 +110,7 @@ put k (suc (suc c)) l n s = queued k l s
 
 -- the reader is told n; whether writers are to be let in
 abbrev pub took : ℕ → Bool → Waited → Waited
-took n x s = waited (drained n (s .pipe)) (s .readers) (s .writers) x (leaves (taken n (s .pipe)) (s .books))
+took n x s = waited (drained n (s .pipe)) (s .readers) (s .writers) x (leaves (out (read n (s .pipe))) (s .books))
 
 -- the reader waits behind those that wait, unless it does not wait
 abbrev pub asked : Bool → ℕ → Waited → Waited
@@ -140,8 +140,8 @@ declined entering s = settled s
 
 abbrev pub told : Try → Reply Moves → Waited → Waited
 told e (refuse c) s = declined e s
-told e (accept m (pos c)) s = done e c (m .actual) s
-told e (accept m (negsuc c)) s = declined e s
+told e (accept m (pos c) o) s = done e c (m .actual) s
+told e (accept m (negsuc c) o) s = declined e s
 
 abbrev pub fresh : Books
 fresh = record { called = []; went = []; got = []; begged = []; fed = [] }
@@ -157,7 +157,3 @@ happens s resets = waited (left (reset (s .pipe)) (s .pipe)) [] [] false fresh
 -- nobody waits any more
 happens s closes = waited (left (close (s .pipe)) (s .pipe)) [] [] false (closed (s .books))
 happens s clears = waited (left (clearReset (s .pipe)) (s .pipe)) (s .readers) (s .writers) (s .letting) (s .books)
-
-abbrev pub ends : Waited → List Event → Waited
-ends s [] = s
-ends s (e ∷ es) = ends (happens s e) es

@@ -6,7 +6,7 @@ use Prim.Native.Nat.{ℕ, _-_, _≤_, _<_}
 use lib.ListN.{length}
 use Rattle.thread.specs.Code.{eagain, einval, epipe}
 use Rattle.store.specs.Store.{refuse}
-use Rattle.pipe.specs.Pipe.{Pipe, write, writeAll, read, readAll, taken, takenAll}
+use Rattle.pipe.specs.Pipe.{Pipe, write, writeAll, read, readAll}
 use Rattle.pipe.specs.HandOver.{used}
 
 pub record AllOrNothing (l : List ℕ) (n : ℕ) (p : Pipe) : Type 0 where
@@ -19,7 +19,7 @@ pub record AllOrNothing (l : List ℕ) (n : ℕ) (p : Pipe) : Type 0 where
   pub write-later : p .opened ≡ true → p .resetting ≡ false → p .ring .capacity - used p < length l → length l ≤ p .ring .capacity → writeAll l p ≡ refuse eagain
   pub write-never : p .opened ≡ true → p .resetting ≡ false → p .ring .capacity < length l → writeAll l p ≡ refuse einval
   -- all are there: the ordinary read
-  pub read-fits : n ≤ used p → (readAll n p ≡ read n p) × (takenAll n p ≡ taken n p)
+  pub read-fits : n ≤ used p → readAll n p ≡ read n p
   pub read-resetting : p .resetting ≡ true → readAll n p ≡ read n p
   -- fewer are there: -11, -22 if as many never are, and -32 if it is closed, so that none come
   pub read-later : p .opened ≡ true → p .resetting ≡ false → used p < n → n ≤ p .ring .capacity → readAll n p ≡ refuse eagain

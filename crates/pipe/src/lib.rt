@@ -8,10 +8,9 @@ use thread::EPIPE;
 use thread::OK;
 ghost use mathlib.Core.Path.{_≡_};
 ghost use Prim.Native.Nat.{_-_, _<_, _≤_, min};
-ghost use mathlib.Core.List.{[]};
 ghost use lib.ListN.{length, getD};
-ghost use Rattle.store.specs.Store.{Did, handed};
-ghost use Rattle.pipe.specs.Pipe.{read as doRead, readAll as doReadAll, taken, takenAll};
+ghost use Rattle.store.specs.Store.{refuse, reply};
+ghost use Rattle.pipe.specs.Pipe.{read as doRead, readAll as doReadAll};
 ghost use Rattle.pipe.specs.Post.{Starts, Writes, WritesAll, Reads, ReadsAll, Resets, Closes, ClearsReset, GetsSpace, GetsData, GetsSize, SaysEmpty, SaysFull, SaysOpen, SaysResetting, WriteDecided, WriteAllDecided, ReadDecided, ReadAllDecided, isOpen, formed as wellFormed, layout, proper as properNumbers};
 
 // Open, and resetting too: Gale's FLAG_OPEN and FLAG_RESET are bits.
@@ -163,8 +162,7 @@ pub fn write_all(h: &mut [u32], b: &mut [u8], src: &[u8]) -> i64
 // A read from a pipe that gives no byte.
 fn read_refusal(h: &[u32], b: &[u8], n: usize) -> i32
     requires { ⌜ (getD (now h) 3 0 < 2 → 0 < n → getD (now h) 2 0 ≡ 0) ⌝ }
-    ensures { λ r. ⌜ Did layout (doRead n) (now (h .entry)) (now (b .entry)) r (now (h .entry)) (now (b .entry)) ⌝ }
-    ensures { λ r. ⌜ handed layout (taken n) (now (h .entry)) (now (b .entry)) ≡ [] ⌝ }
+    ensures { λ r. ⌜ reply layout (doRead n) (now (h .entry)) (now (b .entry)) ≡ refuse r ⌝ }
 {
     if !formed(h, b) {
         return EINVAL;
@@ -202,8 +200,7 @@ pub fn read(h: &mut [u32], b: &[u8], out: &mut [u8]) -> i64
 // A read from a pipe that does not give all n bytes.
 fn read_all_refusal(h: &[u32], b: &[u8], n: usize) -> i32
     requires { ⌜ (getD (now h) 3 0 < 2 → 0 < n → getD (now h) 2 0 < n) ⌝ }
-    ensures { λ r. ⌜ Did layout (doReadAll n) (now (h .entry)) (now (b .entry)) r (now (h .entry)) (now (b .entry)) ⌝ }
-    ensures { λ r. ⌜ handed layout (takenAll n) (now (h .entry)) (now (b .entry)) ≡ [] ⌝ }
+    ensures { λ r. ⌜ reply layout (doReadAll n) (now (h .entry)) (now (b .entry)) ≡ refuse r ⌝ }
 {
     if !formed(h, b) {
         return EINVAL;

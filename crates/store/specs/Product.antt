@@ -1,5 +1,5 @@
 -- Two objects in one memory: their words stand side by side in one header, and so do their elements in one buffer.
-use mathlib.Core.Bool.{true, false, cond}
+use mathlib.Core.Bool.{Bool, true, false, cond}
 use mathlib.Core.List.{List, [], _∷_}
 use Prim.Native.Nat.{ℕ, zero, suc}
 use lib.Dec.{leb}
@@ -35,6 +35,10 @@ behind k Q =
 -- k words that mean `num`, whatever they are
 abbrev pub numbers : {N : Type 0} → ℕ → (List ℕ → N) → Place N
 numbers k num = record { words = k; size = λ h. 0; object = λ h b. num h; formed = λ h b. true }
+
+-- one word, if it may be
+abbrev pub word : (ℕ → Bool) → Place ℕ
+word may = record { words = 1; size = λ h. 0; object = λ h b. getD h 0 0; formed = λ h b. may (getD h 0 0) }
 
 -- the same place, and what stands there in other words
 abbrev pub shaped : {S T : Type 0} → (S → T) → Place S → Place T

@@ -13,7 +13,7 @@ shared-slice-read-if2 : tie.Need-shared-slice-read-if2
 shared-slice-read-if2 c = search needs
 
 returns-2 : tie.Need-returns-2
-returns-2 c = sym (no-flags (c .before .before .before .before .before .args .h .now) (c .before .before .before .before .before .args .b .now) (omega arith) (omega arith))
+returns-2 c = sym (no-flags (c .before .before .before .before .before .args .h .now) (c .before .before .before .before .before .args .b .now) (omega arith))
 
 formed-requires : tie.Need-formed-requires
 formed-requires c κs = search needs

@@ -1,13 +1,12 @@
 use mathlib.Core.Logic.{⊎-elim}
-use mathlib.Core.Path.{refl}
 use native.Mathlib.Omega.{arith}
 use lib.ListN.{length}
 use Rattle.seq.proofs.Integers.{answered, answered64, plain64}
-use Rattle.store.proofs.Laws.{did-bad, handed-bad}
-use Rattle.pipe.specs.Pipe.{readAll, takenAll}
+use Rattle.store.proofs.Laws.{fills-bad, refuses-place}
+use Rattle.pipe.specs.Pipe.{readAll}
 use Rattle.pipe.specs.Post.{layout}
 use Rattle.pipe.proofs.Headers.{no-words}
-use Rattle.pipe.proofs.Answers.{took-all, took-all-out}
+use Rattle.pipe.proofs.Answers.{took-all}
 use borrow.Author.Needs.{needs}
 use Rattle.pipe.proofs.read_all.Statement.{statement}
 use Rattle.pipe.proofs.read_all.Tie as tie
@@ -25,9 +24,7 @@ cast-result c = search needs
 returns : tie.Need-returns
 returns c =
     let a = c .before .before .before .before .args in
-    let f = no-words (a .h .now) (a .b .now) (omega arith) in
-    let n = length (a .out .now) in
-    (did-bad layout (readAll n) (a .h .now) (a .b .now) f, rw (handed-bad layout (a .h .now) (a .b .now) (takenAll n) f) refl)
+    fills-bad layout (readAll (length (a .out .now))) (a .h .now) (a .b .now) (a .out .now) (no-words (a .h .now) (a .b .now) (omega arith))
 
 -- src/lib.rt:232:8
 slice-read-if2 : tie.Need-slice-read-if2
@@ -57,13 +54,10 @@ same-length-2 c = search needs
 returns-2 : tie.Need-returns-2
 returns-2 c =
     let a = c .before .before .before .before .before .before .before .before .before .before .before .before .before .before .before .before .before .args in
-    let n = length (a .out .now) in
     let w = c .before .before .before .before .before .before .before .before .wide .ensures in
-    let u = c .before .before .before .before .get-n in (
-      rw (answered64 {z = u .result} (u .ok))
-          (took-all (a .h .now) (a .b .now) (omega arith) n (omega arith) (omega arith) (omega (arith, w)) (u .ensures .0)),
-      rw (took-all-out (a .h .now) (a .b .now) (omega arith) n (omega arith) (omega arith) (omega (arith, w))) at (u .ensures .1),
-    )
+    let u = c .before .before .before .before .get-n in
+    rw (answered64 {z = u .result} (u .ok))
+    (took-all (a .h .now) (a .b .now) (omega arith) (a .out .now) (omega arith) (omega arith) (omega (arith, w)) (u .ensures))
 
 -- src/lib.rt:239:5
 read-all-refusal-requires : tie.Need-read-all-refusal-requires
@@ -81,8 +75,10 @@ same-length-3 c = search needs
 -- src/lib.rt:226:1
 returns-3 : tie.Need-returns-3
 returns-3 c =
+    let a = c .before .before .before .before .before .before .before .before .args in
     let u = c .read-all-refusal in
-    (rw (answered {z = u .result} (u .ok), plain64 {z = u .result} (record { sfits = u .ok })) (u .ensures .0), rw (u .ensures .1) refl)
+    rw (answered {z = u .result} (u .ok), plain64 {z = u .result} (record { sfits = u .ok }))
+    (refuses-place layout (readAll (length (a .out .now))) (a .h .now) (a .b .now) (u .ensures) (a .out .now))
 
 pub read-all-spec : {M : Type 1} → statement M
 read-all-spec =

@@ -1,8 +1,8 @@
 use mathlib.Core.Path.{sym, _∙_}
 use native.Mathlib.Omega.{arith}
 use borrow.Author.Tests.{not-true, not-false}
-use Rattle.store.proofs.Laws.{did-bad, handed-bad}
-use Rattle.pipe.specs.Pipe.{readAll, takenAll}
+use Rattle.store.proofs.Laws.{replies-bad}
+use Rattle.pipe.specs.Pipe.{readAll}
 use Rattle.pipe.specs.Post.{layout}
 use Rattle.pipe.proofs.Headers.{from-formed}
 use Rattle.pipe.proofs.Answers.{read-all-cancelled, read-all-nothing, read-all-broken, read-all-too-long, read-all-again}
@@ -22,8 +22,7 @@ formed-requires c κs = search needs
 returns : tie.Need-returns
 returns c =
     let a = c .before .before .before .before .args in
-    let f = sym (c .before .formed .ensures) ∙ not-true _ (c .if1 .taken) in
-    (did-bad layout (readAll (a .n)) (a .h .now) (a .b .now) f, handed-bad layout (a .h .now) (a .b .now) (takenAll (a .n)) f)
+    replies-bad layout (readAll (a .n)) (a .h .now) (a .b .now) (sym (c .before .formed .ensures) ∙ not-true _ (c .if1 .taken))
 
 -- src/lib.rt:209:17
 shared-slice-read-flags : tie.Need-shared-slice-read-flags

@@ -3,8 +3,8 @@ use mathlib.Core.Path.{sym, _∙_}
 use native.Mathlib.Omega.{arith}
 use borrow.Author.Tests.{not-true, not-false}
 use Rattle.pipe.proofs.Headers.{from-formed}
-use Rattle.store.proofs.Laws.{did-bad, handed-bad}
-use Rattle.pipe.specs.Pipe.{read, taken}
+use Rattle.store.proofs.Laws.{replies-bad}
+use Rattle.pipe.specs.Pipe.{read}
 use Rattle.pipe.specs.Post.{layout}
 use Rattle.pipe.proofs.Answers.{read-cancelled, read-nothing, read-broken, read-again}
 use borrow.Author.Needs.{needs}
@@ -15,7 +15,9 @@ formed-requires : tie.Need-formed-requires
 formed-requires c κs = search needs
 
 returns : tie.Need-returns
-returns c = let f = (sym (c .before .formed .ensures) ∙ not-true _ (c .if1 .taken)) in (did-bad layout (read (c .before .before .before .before .args .n)) (c .before .before .before .before .args .h .now) (c .before .before .before .before .args .b .now) f, handed-bad layout (c .before .before .before .before .args .h .now) (c .before .before .before .before .args .b .now) (taken (c .before .before .before .before .args .n)) f)
+returns c =
+    let a = c .before .before .before .before .args in
+    replies-bad layout (read (a .n)) (a .h .now) (a .b .now) (sym (c .before .formed .ensures) ∙ not-true _ (c .if1 .taken))
 
 shared-slice-read-flags : tie.Need-shared-slice-read-flags
 shared-slice-read-flags c = omega (arith, (from-formed (c .before .before .before .before .before .args .h .now) (c .before .before .before .before .before .args .b .now) (sym (c .before .before .formed .ensures) ∙ not-false _ (c .before .if1 .left))))
