@@ -1,12 +1,14 @@
 -- Every claim holds. Assumes nothing.
-use mathlib.Core.Path.{_≡_, subst, ap, _∙_}
+use mathlib.Core.Path.{_≡_, ap}
 use mathlib.Core.List.{List}
 use Prim.Native.Nat.{ℕ, _+_, _≤_}
 use lib.IntN.{ℤ}
 use lib.ListN.{length, drop}
 use Rattle.seq.specs.Part.{part, Within, At}
 use Rattle.seq.proofs.Part.{part-put, within-put, part-below, part-above, whole-stays}
-use Rattle.store.specs.Store as store
+use Rattle.store.specs.Store.{Reply, refuse, accept, out, Place, reply, After, Did}
+use Rattle.store.proofs.Laws.{kept, below-zero}
+use Rattle.kind.proofs.Refusals.{signed}
 use Rattle.sem.proofs.Border as sem
 use Rattle.mutex.proofs.Border as mutex
 use Rattle.system.proofs.Theorems.{all}
@@ -16,22 +18,14 @@ use Rattle.claims.specs.Parts.{Apart, returned}
 use Rattle.claims.proofs.Contracts.{contracts}
 use Rattle.claims.proofs.Objects.{objects}
 
--- a refusal
-refused-too : {S : Type 0} (P : store.Place S) (f : S → store.Reply S) (h b : List ℕ) (c r : ℤ) (h' b' : List ℕ) → store.reply P f h b ≡ store.refuse c
-    → store.Did P f h b r h' b'
-    → (r ≡ c) × (h' ≡ h) × (b' ≡ b)
-refused-too {S} P f h b c r h' b' e d =
-    let a : (h' ≡ h) × (b' ≡ b) = subst (λ (x : store.Reply S). store.After P x h b h' b') e (d .after) in
-    (d .code ∙ ap store.answer e, a .0, a .1)
-
 -- what is not the object's stays
-outside-too : {S : Type 0} (P : store.Place S) (f : S → store.Reply S) (h b : List ℕ) (r : ℤ) (h' b' : List ℕ) → store.Did P f h b r h' b'
+outside : {S : Type 0} (P : Place S) (f : S → Reply S) (h b : List ℕ) (r : ℤ) (h' b' : List ℕ) → Did P f h b r h' b'
     → (drop (P .words) h' ≡ drop (P .words) h) × (drop (P .size h') b' ≡ drop (P .size h') b)
-outside-too {S} P f h b r h' b' d = go (store.reply P f h b) (d .after)
+outside {S} P f h b r h' b' d = go (reply P f h b) (d .after)
   where
-    go : (x : store.Reply S) → store.After P x h b h' b' → (drop (P .words) h' ≡ drop (P .words) h) × (drop (P .size h') b' ≡ drop (P .size h') b)
-    go (store.refuse c) a = (ap (drop (P .words)) (a .0), ap (drop (P .size h')) (a .1))
-    go (store.accept s c) a = (a .beside, a .rest)
+    go : (x : Reply S) → After P x h b h' b' → (drop (P .words) h' ≡ drop (P .words) h) × (drop (P .size h') b' ≡ drop (P .size h') b)
+    go (refuse c) a = (ap (drop (P .words)) (a .0), ap (drop (P .size h')) (a .1))
+    go (accept s c o) a = (a .beside, a .rest)
 
 -- parts beside one that was lent
 apart : (a n : ℕ) (l l' : List ℕ) → Within a n l l' → Apart a n l l'
@@ -52,10 +46,10 @@ pub claims : Claims
 claims =
     record {
       contracts = contracts;
-      refused = λ L f h e r h' e' d. (d .kept, d .beside);
-      refused-too = refused-too;
-      outside = λ L f h e r h' e' d. (d .beside, d .rest);
-      outside-too = outside-too;
+      refused = λ P f h b c r h' b' e d. let k = kept P f h b d e in (k .0, k .1, k .2, ap out e);
+      below-zero = below-zero;
+      signed = signed;
+      outside = outside;
       border = (sem.border, mutex.border);
       in-part = in-part;
       objects = objects;

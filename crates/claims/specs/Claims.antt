@@ -1,13 +1,13 @@
 -- A field for each sentence of README.md and docs/THEOREMS.md.
 use mathlib.Core.Path.{_≡_}
-use mathlib.Core.List.{List, _∷_}
+use mathlib.Core.List.{List, [], _∷_}
 use Prim.Native.Nat.{ℕ, _+_, _≤_}
 use lib.IntN.{ℤ, negsuc}
-use lib.ListN.{length, drop, getD}
+use lib.ListN.{length, drop}
 use Rattle.seq.specs.Part.{part, At}
-use Rattle.kind.specs.Object as kind
-use Rattle.store.specs.Store as store
-use Rattle.wait_queue.specs.Post.{Refused}
+use Rattle.store.specs.Store.{Reply, refuse, out, Refused, Signed, Place, reply, Did}
+use Rattle.kind.specs.Kind.{Kind, Lawful}
+use Rattle.kind.specs.Object.{Object, Caller, call}
 use Rattle.sem.specs.Border as sem
 use Rattle.mutex.specs.Border as mutex
 use Rattle.mutex.specs.Mutex.{Mutex, maxCount}
@@ -34,16 +34,15 @@ pub record Claims : Type 1 where
   -- ---- README.md
   -- 1, 8, 10, 11: a contract fixes the answer and every word
   pub contracts : Contracts
-  -- 2, 11: a refusal changes no word, and no call changes one outside the object
-  pub refused : {N : Type 0} (L : kind.Layout N) (f : N → List ℕ → kind.Out N) (h e : List ℕ) (r : ℤ) (h' e' : List ℕ) → kind.Does L f h e r h' e'
-      → Refused r ((h' ≡ h) × (e' ≡ e)) × (drop (L .words) h' ≡ drop (L .words) h)
-  pub refused-too : {S : Type 0} (P : store.Place S) (f : S → store.Reply S) (h b : List ℕ) (c : ℤ) (r : ℤ) (h' b' : List ℕ)
-      → store.reply P f h b ≡ store.refuse c
-      → store.Did P f h b r h' b' → (r ≡ c) × (h' ≡ h) × (b' ≡ b)
-  -- whatever is answered
-  pub outside : {N : Type 0} (L : kind.Layout N) (f : N → List ℕ → kind.Out N) (h e : List ℕ) (r : ℤ) (h' e' : List ℕ) → kind.Does L f h e r h' e'
-      → (drop (L .words) h' ≡ drop (L .words) h) × (drop (getD h' (L .len) 0) e' ≡ drop (getD h' (L .len) 0) e)
-  pub outside-too : {S : Type 0} (P : store.Place S) (f : S → store.Reply S) (h b : List ℕ) (r : ℤ) (h' b' : List ℕ) → store.Did P f h b r h' b'
+  -- 2, 11: a refusal changes no word and hands nothing out
+  pub refused : {S : Type 0} (P : Place S) (f : S → Reply S) (h b : List ℕ) (c : ℤ) (r : ℤ) (h' b' : List ℕ) → reply P f h b ≡ refuse c
+      → Did P f h b r h' b' → (r ≡ c) × (h' ≡ h) × (b' ≡ b) × (out (reply P f h b) ≡ [])
+  -- where an answer below 0 is a refusal, and nothing else is, so does any such answer; and so it is of every call of an object with a queue
+  pub below-zero : {S : Type 0} (P : Place S) (f : S → Reply S) → ((s : S) → Signed (f s)) → (h b : List ℕ) (r : ℤ) (h' b' : List ℕ) → Did P f h b r h' b'
+      → Refused r ((h' ≡ h) × (b' ≡ b))
+  pub signed : (K : Kind) → Lawful K → (v : ℕ → K .Wish) (s : Object (K .Num)) (w : Caller) (k : K .Call) → Signed (call K v w k s)
+  -- no call changes a word outside the object, whatever it answers
+  pub outside : {S : Type 0} (P : Place S) (f : S → Reply S) (h b : List ℕ) (r : ℤ) (h' b' : List ℕ) → Did P f h b r h' b'
       → (drop (P .words) h' ≡ drop (P .words) h) × (drop (P .size h') b' ≡ drop (P .size h') b)
   -- 20: what give, take, lock and unlock on plain numbers refuse
   pub border : sem.Border × mutex.Border

@@ -5,6 +5,7 @@ use mathlib.Core.List.{List, []}
 use Prim.Native.Nat.{ℕ, _≤_, _<_}
 use Rattle.thread.specs.Code.{ok}
 use Rattle.kind.specs.Kind as kind
+use Rattle.kind.specs.Object as objects
 use Rattle.kind.specs.History as histories
 use Rattle.sem.specs.History as sem
 use Rattle.sem.specs.Sem as semaphore

@@ -24,7 +24,7 @@ because (pos n) p = tt
 because (negsuc n) p = p
 
 -- a call of a lawful kind
-module _ (K : Kind) (law : Lawful K) (v : ℕ → K .Wish) (s : Object (K .Num)) (f : fine K s ≡ true) where
+module _ (K : Kind) (law : Lawful K) (v : ℕ → K .Wish) (s : Object (K .Num)) where
   by-verdict : (w : Caller) (k : K .Call) (d : Verdict (K .Num) (K .Wish)) → Booked K (s .num) (map ident (s .queue)) (name w) k d → Signed (carried w d s)
   by-verdict w k (deny (pos r)) b = b
   by-verdict w k (deny (negsuc r)) b = tt
@@ -41,11 +41,14 @@ module _ (K : Kind) (law : Lawful K) (v : ℕ → K .Wish) (s : Object (K .Num))
   by-verdict w k (allow m (wake p g) (negsuc r)) b = b
 
   pub signed : (w : Caller) (k : K .Call) → Signed (call K v w k s)
-  signed w k =
-      rw f
-      (go (code w) (carried w (K .decide (s .num) v (map ident (s .queue)) (name w) k) s)
-      (by-verdict w k (K .decide (s .num) v (map ident (s .queue)) (name w) k) (law .booked (s .num) v (map ident (s .queue)) (name w) k (rw (any-map ident (s .queue)) f))))
+  signed w k = go (fine K s) refl
     where
-      go : (z : ℤ) (y : Reply (Object (K .Num))) → Signed y → Signed (asked z y)
-      go (pos c) y h = h
-      go (negsuc c) y h = tt
+      barred : (z : ℤ) (y : Reply (Object (K .Num))) → Signed y → Signed (asked z y)
+      barred (pos c) y h = h
+      barred (negsuc c) y h = tt
+
+      go : (b : Bool) → fine K s ≡ b → Signed (cond b (asked (code w) (carried w (K .decide (s .num) v (map ident (s .queue)) (name w) k) s)) (refuse einval))
+      go true f =
+          barred (code w) _
+          (by-verdict w k (K .decide (s .num) v (map ident (s .queue)) (name w) k) (law .booked (s .num) v (map ident (s .queue)) (name w) k (rw (any-map ident (s .queue)) f)))
+      go false f = tt

@@ -12,7 +12,7 @@ use Rattle.seq.specs.List.{any}
 use Rattle.seq.proofs.Words.{Each, by-words}
 pub use Rattle.seq.proofs.Order.{both-true}
 use Rattle.thread.specs.Code.{ok, einval}
-use Rattle.store.specs.Store.{Reply, refuse, accept, answer, left, out, carry, Decided, Place, reply, Becomes, After, Did, looks, Filled, first, Fills, Hands, Started}
+use Rattle.store.specs.Store.{Reply, refuse, accept, answer, left, out, carry, Decided, Place, reply, Becomes, After, Did, looks, Filled, first, Fills, Hands, Started, Refused, Signed}
 
 pub any-some : {A : Type 0} (l : List A) → 0 < length l → any l ≡ true
 any-some [] f = absurd (omega arith)
@@ -137,6 +137,21 @@ module _ {S : Type 0} (P : Place S) (f : S → Reply S) (h b : List ℕ) where
   -- what was not refused was not malformed
   pub found : {n : ℕ} {h' b' : List ℕ} → Did P f h b (pos n) h' b' → P .formed h b ≡ true
   found d = either (P .formed h b) (λ e. e) (λ e. no-code (kept-bad d e .0))
+
+-- an operation that is answered below 0 exactly if it refuses changes nothing then
+pub below-zero : {S : Type 0} (P : Place S) (f : S → Reply S) → ((s : S) → Signed (f s)) → (h b : List ℕ) (r : ℤ) (h' b' : List ℕ) → Did P f h b r h' b'
+    → Refused r ((h' ≡ h) × (b' ≡ b))
+below-zero {S} P f g h b r h' b' d = go (reply P f h b) refl (all (P .formed h b)) r (d .code)
+  where
+    all : (c : Bool) → Signed (cond c (f (P .object h b)) (refuse einval))
+    all true = g (P .object h b)
+    all false = tt
+
+    go : (y : Reply S) → reply P f h b ≡ y → Signed y → (r : ℤ) → r ≡ answer (reply P f h b) → Refused r ((h' ≡ h) × (b' ≡ b))
+    go y e n (pos c) z = tt
+    go (refuse x) e n (negsuc c) z = (kept P f h b d e .1, kept P f h b d e .2)
+    go (accept s (pos x) o) e n (negsuc c) z = no-code (sym (z ∙ ap answer e))
+    go (accept s (negsuc x) o) e n (negsuc c) z = absurd n
 
 -- what is carried over hands out the same
 pub carry-out : {N S : Type 0} (f : N → S) (y : Reply N) → out (carry f y) ≡ out y

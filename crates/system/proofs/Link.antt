@@ -76,7 +76,7 @@ module _ {K : Kind} (law : Lawful K) {N : Type 0} (L : Layout N) (num : N → K 
     pub leaves : Is L num (called s i o k .0) o h' e'
     leaves =
         after u here same
-        (subst Signed same (signed K law (s .wish) (thing s o (num (L .num h))) (g .formed o (num (L .num h)) (m .slot)) (thread i (s .prio i) (number (s .state i))) k))
+        (subst Signed same (signed K law (s .wish) (thing s o (num (L .num h))) (thread i (s .prio i) (number (s .state i))) k))
 
 -- the words of l in a place of none, of one, and of any length
 pub in-none : (l : List Woken) (out out' : List ℕ) → out ≡ [] → out' ≡ [] → length l ≤ 0 → Handed l out out'
