@@ -1,6 +1,6 @@
 -- How a function shows what it did, and how its callers use it.
 use mathlib.Core.Path.{_≡_, refl, sym, ap, subst, _∙_}
-use mathlib.Core.Bool.{Bool, true, false, not-eq-not}
+use mathlib.Core.Bool.{Bool, true, false, cond, not-eq-not}
 use mathlib.Core.List.{List, [], _∷_}
 use Prim.Native.Nat.{ℕ, _<_, _≤_}
 use native.Mathlib.Omega.{arith}
