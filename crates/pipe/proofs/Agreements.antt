@@ -9,7 +9,7 @@ use lib.IntN.{ℤ, pos}
 use lib.ListN.{length, take, length-append, length-take, length-drop}
 use Rattle.thread.specs.Code.{einval}
 use Rattle.store.specs.Store.{Reply, refuse, accept}
-use Rattle.pipe.specs.Pipe.{Pipe, Verdict, never, later, move, writes, reads, more, less, done, toWrite, toRead, write, read}
+use Rattle.pipe.specs.Pipe.{Pipe, Verdict, never, later, move, writes, reads, more, less, front, done, toWrite, toRead, write, read}
 use Rattle.pipe.specs.Post.{isOpen, isResetting, Moves, goes, wakes, decided, proper, heldThen}
 use Rattle.pipe.specs.HandOver.{used, flags, Agree, refuses, waits, moves, writeOf, readOf, Wakes, refused, delayed, woken, WhoWaits}
 use Rattle.pipe.proofs.Verdicts.{Within, write-within, read-within, is-proper, from-proper, write-is, read-is}
@@ -62,7 +62,7 @@ module _ (p : Pipe) (some : 0 < p .ring .capacity) (under : used p ≤ p .ring .
   pub read-agrees : (n : ℕ) → Agree p (readOf n p) (read n p)
   read-agrees n =
       subst (λ (d : Reply Moves). Agree p d (read n p)) (sym (read-is (used p) (p .ring .capacity) (flags p) n false fits (read-same n)))
-      (agree p n (used p) (λ k. used p - k) (less p) (λ k. take k (p .ring .held)) (λ k m. sym (length-drop k (p .ring .held))) (toRead n p)
+      (agree p n (used p) (λ k. used p - k) (less p) (front p) (λ k m. sym (length-drop k (p .ring .held))) (toRead n p)
       (read-within (used p) (p .opened) (p .resetting) n))
 
 -- ---- who waits

@@ -6,13 +6,13 @@ use Prim.Native.Nat.{ℕ, _<_, min}
 use native.Mathlib.Omega.{arith}
 use borrow.Author.Tests.{ne-eqb, lt-ltb}
 use lib.IntN.{pos}
-use lib.ListN.{length, take}
+use lib.ListN.{length}
 use Rattle.seq.specs.List.{All}
 use Rattle.thread.specs.Code.{ecanceled}
 use Rattle.store.specs.Store.{Reply, refuse, accept, answer, left}
 use Rattle.store.specs.History.{Step, Ran, fresh, ran, Made}
 use Rattle.store.proofs.Histories.{runs, throughout}
-use Rattle.pipe.specs.Pipe.{Pipe, Verdict, never, later, move, more, less, done, comesOut, toWrite, toWriteAll, toRead, toReadAll, write, writeAll, read, readAll}
+use Rattle.pipe.specs.Pipe.{Pipe, Verdict, never, later, move, more, less, front, done, comesOut, toWrite, toWriteAll, toRead, toReadAll, write, writeAll, read, readAll}
 use Rattle.pipe.specs.Post.{formed, object, layout}
 use Rattle.pipe.specs.History.{Call, writes, writesAll, reads, readsAll, resets, closes, clears, does, putBy, Closed, Readable, Ends, cancelled, Cancelled}
 use Rattle.pipe.proofs.Answers.{take-least}
@@ -27,8 +27,8 @@ spared p f o h (move k) = h k
 still : (k : Call) (p : Pipe) → p .opened ≡ false → left (does k p) p .opened ≡ false
 still (writes l) p e = spared p (more l p) (λ k. []) (λ k. refl) (toWrite (length l) p) ∙ e
 still (writesAll l) p e = spared p (more l p) (λ k. []) (λ k. refl) (toWriteAll (length l) p) ∙ e
-still (reads n) p e = spared p (less p) (λ k. take k (p .ring .held)) (λ k. refl) (toRead n p) ∙ e
-still (readsAll n) p e = spared p (less p) (λ k. take k (p .ring .held)) (λ k. refl) (toReadAll n p) ∙ e
+still (reads n) p e = spared p (less p) (front p) (λ k. refl) (toRead n p) ∙ e
+still (readsAll n) p e = spared p (less p) (front p) (λ k. refl) (toReadAll n p) ∙ e
 still resets p e = e
 still closes p e = refl
 still clears p e = e

@@ -16,7 +16,7 @@ use Rattle.store.proofs.Histories.{from-start, throughout}
 use Rattle.seq.specs.List.{All}
 use Rattle.ring_buf.specs.History.{number}
 use Rattle.ring_buf.proofs.Answers.{held-is, spare-is}
-use Rattle.pipe.specs.Pipe.{Pipe, Verdict, never, later, move, more, less, done, goesIn, comesOut, toWrite, toWriteAll, toRead, toReadAll}
+use Rattle.pipe.specs.Pipe.{Pipe, Verdict, never, later, move, more, less, front, done, goesIn, comesOut, toWrite, toWriteAll, toRead, toReadAll}
 use Rattle.pipe.specs.Post.{Starts, formed, object, layout, new}
 use Rattle.pipe.specs.History.{Call, writes, writesAll, reads, readsAll, resets, closes, clears, does, got, line, open-by, resetting-by, Whole, Promise}
 use Rattle.pipe.proofs.Verdicts.{Within, write-within, write-all-within, read-within, read-all-within, Every, write-every, read-every}
@@ -108,7 +108,7 @@ whole (writesAll l) p =
     (write-every (length (p .ring .held)) (p .ring .capacity) (p .opened) (p .resetting) (length l))
 whole (reads n) p = tt
 whole (readsAll n) p =
-    entire (less p) (λ k. take k (p .ring .held)) n (toReadAll n p)
+    entire (less p) (front p) n (toReadAll n p)
     (read-every (length (p .ring .held)) (p .ring .capacity) (p .opened) (p .resetting) n)
 whole resets p = tt
 whole closes p = tt
@@ -126,8 +126,8 @@ unmoved p f o c (move k) e = absurd (let y : _≡_ {A = ℕ} 0 1 = cc in omega a
 refused-stays : (k : Call) (p : Pipe) (c : ℕ) → answer (does k p) ≡ negsuc c → left (does k p) p ≡ p
 refused-stays (writes l) p c e = unmoved p (more l p) (λ k. []) c (toWrite (length l) p) e
 refused-stays (writesAll l) p c e = unmoved p (more l p) (λ k. []) c (toWriteAll (length l) p) e
-refused-stays (reads n) p c e = unmoved p (less p) (λ k. take k (p .ring .held)) c (toRead n p) e
-refused-stays (readsAll n) p c e = unmoved p (less p) (λ k. take k (p .ring .held)) c (toReadAll n p) e
+refused-stays (reads n) p c e = unmoved p (less p) (front p) c (toRead n p) e
+refused-stays (readsAll n) p c e = unmoved p (less p) (front p) c (toReadAll n p) e
 refused-stays resets p c e = absurd (no-code e)
 refused-stays closes p c e = absurd (no-code e)
 refused-stays clears p c e = absurd (no-code e)

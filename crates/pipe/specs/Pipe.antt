@@ -85,8 +85,11 @@ abbrev pub goesIn : List ℕ → Pipe → Verdict → Reply Pipe
 goesIn l p v = done (more l p) (λ k. []) v
 
 -- what leaves is handed out
+abbrev pub front : Pipe → ℕ → List ℕ
+front p k = take k (p .ring .held)
+
 abbrev pub comesOut : Pipe → Verdict → Reply Pipe
-comesOut p v = done (less p) (λ k. take k (p .ring .held)) v
+comesOut p v = done (less p) (front p) v
 
 -- a write of l: as many as there is room for, or all or none
 abbrev pub write : List ℕ → Pipe → Reply Pipe
