@@ -71,10 +71,10 @@ pub record Objects : Type 1 where
   pub timeout : timeouts.Always
   pub once : timeouts.Once
   -- with those that wait
-  pub message-queue-fair : (c z : ℕ) (b : List ℕ) (es : List waiting.Event) → 0 < c → waiting.Fair c z (waiting.ends (unwaited (queues.new z c b)) es)
+  pub message-queue-fair : (c z : ℕ) (b : List ℕ) (es : List waiting.Event) → 0 < c → waiting.Fair c z (steps.after waiting.happens (unwaited (queues.new z c b)) es)
   -- all or nothing, beside the ordinary write and read
   pub all-or-nothing : (l : List ℕ) (n : ℕ) (p : Pipe) → AllOrNothing l n p
   pub pipe-fair : (c : ℕ) → 0 < c → (b : List ℕ) (es : List waiters.Event)
-      → fair.Fair c (waiters.ends (waiters.waited (pipes.new c b) [] [] false waiters.fresh) es)
+      → fair.Fair c (steps.after waiters.happens (waiters.waited (pipes.new c b) [] [] false waiters.fresh) es)
   pub stack-alike : (c : ℕ) (w : List ℕ) → stacks.may c w ≡ true → (es : List handed.Event) → handed.Alike (record { stack = stacks.fresh c w; waiting = 0 }) es
   pub slab-handed : (b : ℕ) (h l : List ℕ) → given.HandOver b h l
