@@ -1,7 +1,7 @@
--- Who is woken by a call is made ready, and no other thread changes but the caller; and by one call after another. Assumes nothing.
+-- Who is woken by a call waited there and is made ready, and no other thread changes but the caller; and by one call after another. Assumes nothing.
 use mathlib.Core.Path.{_≡_, refl, sym, subst, _∙_, ap}
 use mathlib.Core.Bool.{Bool, true, false, cond}
-use mathlib.Core.List.{List, [], _∷_, map, _++_, append-nil}
+use mathlib.Core.List.{List, [], _∷_, map, map-map, _++_, append-nil}
 use Prim.Native.Nat.{ℕ, _≤_}
 use native.Mathlib.Omega.{arith}
 use lib.Dec.{eqb}
@@ -10,11 +10,14 @@ use lib.ListN.{length}
 use borrow.Author.Tests.{eq-eqb, ne-eqb}
 use Rattle.seq.specs.List.{All}
 use Rattle.wait_queue.specs.Queue.{ident, holds}
+use Rattle.wait_queue.proofs.Well.{all-in}
 use Rattle.store.specs.Store as store
 use Rattle.kind.specs.Verdict.{Pick, gone, keep, park, wake, Verdict, deny, allow}
-use Rattle.kind.specs.Kind.{Kind}
-use Rattle.system.specs.System.{ready, Slot, object, Sys, Woken, deed, woken, unless, serve, thing, outcome, verdict, visited, called, running}
-use Rattle.system.specs.Link.{read, word, Readies}
+use Rattle.kind.specs.Kind.{Kind, Distinct}
+use Rattle.system.specs.System.{ready, waiting, Slot, vacant, object, Sys, Woken, deed, woken, unless, serve, thing, outcome, verdict, visited, called, running}
+use Rattle.system.specs.Link.{read, word, Readies, Waited}
+use Rattle.system.specs.Rules.{Fine}
+use Rattle.system.proofs.Times.{times-pick, on-one, picked, list-all, distinct, single}
 use Rattle.store.specs.Store.{first}
 
 module _ {K : Kind} (s : Sys K) (i o : ℕ) (k : K .Call) (n : K .Num) (h : s .slot o ≡ object n) where
@@ -50,6 +53,33 @@ module _ {K : Kind} (s : Sys K) (i o : ℕ) (k : K .Call) (n : K .Num) (h : s .s
       go (pos c) (allow m (park y) r) = record { ready = tt; others = λ t a x. rw (ne-eqb i t x) }
       go (pos c) (allow m (wake p f) r) =
           record { ready = roused m p f r (gone ident p q) (λ t z. z); others = λ t a x. rw (off t f (gone ident p q) a) }
+
+-- and waited on this object, each once
+pub woken-waited : {K : Kind} (s : Sys K) → Fine s → (i o : ℕ) (k : K .Call) → Waited s o (called s i o k .2)
+woken-waited {K} s g i o k = go (s .slot o)
+  where
+    none : Waited s o []
+    none = record { there = tt; once = tt }
+
+    by : (z : ℤ) (d : Verdict (K .Num) (K .Wish)) → Waited s o (unless z [] (woken (deed d) (s .queue o)))
+    by (negsuc c) d = none
+    by (pos c) (deny r) = none
+    by (pos c) (allow m keep r) = none
+    by (pos c) (allow m (park x) r) = none
+    by (pos c) (allow m (wake p f) r) =
+        let l = gone ident p (s .queue o) in
+        record {
+          there =
+              list-all (λ (w : Woken). s .state (w .thread) ≡ waiting o) (λ x. record { thread = ident x; result = f (ident x) }) l
+              (all-in (λ t. s .state t ≡ waiting o) l (λ t z. picked s (g .placed) o t p z));
+          once =
+              subst Distinct (sym (map-map (λ (w : Woken). w .thread) (λ x. record { thread = ident x; result = f (ident x) }) l))
+              (distinct l (single l (λ t. omega (arith, times-pick t p (s .queue o), g .placed o t, on-one o (s .state t)))));
+        }
+
+    go : (x : Slot (K .Num)) → Waited s o (visited x s i o k .2)
+    go vacant = none
+    go (object n) = by (store.answer (outcome s i o k n)) (verdict s i o k n)
 
 -- one call after another, of which the second wakes nobody, by a thread that still runs between them
 pub readies-on : {K : Kind} (s t u : Sys K) (i : ℕ) (l m : List Woken) → t .state i ≡ running → length m ≤ 0 → Readies s i l t → Readies t i m u
