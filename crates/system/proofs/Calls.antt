@@ -167,7 +167,7 @@ module _ {K : Kind} (s : Sys K) (g : Fine s) (i o : ℕ) (n : K .Num) (h : s .sl
         → All (λ y. K .Blocked k (ident y) (upd (s .wish) i x (ident y))) l
     wish-off k l z a =
         all-two (λ y. Other i y) (λ y. K .Blocked k (ident y) (s .wish (ident y))) (λ y. K .Blocked k (ident y) (upd (s .wish) i x (ident y))) l
-        (λ y n b. rw (ne-eqb i (ident y) (λ e. n (sym e))) b) (holds-none i l z) (all-list (λ t. K .Blocked k t (s .wish t)) l a)
+        (λ y n b. rw (ne-eqb i (ident y) (λ e. n (sym e))) b) (holds-none i l z) (all-list (λ t. K .Blocked k t (s .wish t)) ident l a)
 
     waits : K .formed m true ≡ true → K .Blocked m i x → Rightly K m (s .wish) (map ident q) → Fine (serve s i o wait joins)
     waits f b k =

@@ -120,7 +120,7 @@ pub data Does (K : Kind) (v : ℕ → K .Wish) (i o : ℕ) (k : K .Call) (t : �
 
 -- of those that are woken, each is owed its result
 pub owed : (P : ℕ → Type 0) (t : ℕ) (q : List ℕ) → holds t q ≡ true → All P (map ident q) → P t
-owed P t q h a = in-all P q t (all-list P q a) h
+owed P t q h a = in-all P q t (all-list P ident q a) h
 
 module _ {K : Kind} (law : Lawful K) (s : Sys K) (g : Fine s) (i o : ℕ) (k : K .Call) (n : K .Num) (h : s .slot o ≡ object n) (t : ℕ) where
   abbrev q : List ℕ

@@ -95,7 +95,7 @@ module _ {K : Kind} (s : Sys K) (g : Fine s) where
         keep x n z true u =
             list-all (λ t. K .Blocked n t (s .wish t)) ident (without i (s .queue o))
             (sub-holds (λ y. K .Blocked n (ident y) (s .wish (ident y))) (others-sub (of i) (s .queue o))
-            (all-list (λ t. K .Blocked n t (s .wish t)) (s .queue o) (g .kept o n (rw (sym (eqb-true o x u)) at z))))
+            (all-list (λ t. K .Blocked n t (s .wish t)) ident (s .queue o) (g .kept o n (rw (sym (eqb-true o x u)) at z))))
         keep x n z false u = g .kept x n z
 
         form : (x : ℕ) (n : K .Num) → s .slot x ≡ object n → (a : Bool) → eqb o x ≡ a → K .formed n (any (cond a (without i (s .queue o)) (s .queue x))) ≡ true

@@ -127,10 +127,10 @@ upd-at f i x = rw (eq-eqb i i refl)
 pub upd-off : {A : Type 0} (f : ℕ → A) (i : ℕ) (x : A) (t : ℕ) → (i ≡ t → ⊥) → upd f i x t ≡ f t
 upd-off f i x t n = rw (ne-eqb i t n)
 
--- a list of threads
-pub all-list : (P : ℕ → Type 0) (q : List ℕ) → All P (map ident q) → All (λ x. P (ident x)) q
-all-list P [] a = tt
-all-list P (x ∷ q) a = (a .0, all-list P q (a .1))
+-- what holds of each of a list that is made of another
+pub all-list : {A : Type 0} (P : A → Type 0) (f : ℕ → A) (q : List ℕ) → All P (map f q) → All (λ x. P (f x)) q
+all-list P f [] a = tt
+all-list P f (x ∷ q) a = (a .0, all-list P f q (a .1))
 
 pub list-all : {A : Type 0} (P : A → Type 0) (f : ℕ → A) (q : List ℕ) → All (λ x. P (f x)) q → All P (map f q)
 list-all P f [] a = tt
