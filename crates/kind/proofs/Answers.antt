@@ -209,7 +209,8 @@ pub waits-now : (K : Kind) (L : Layout (K .Num)) (v : ℕ → K .Wish) (i p st :
     → Did (standing L) (call K v (thread i p st) k) h e r (set h (L .len) m) e'
 waits-now K L v i p st k h e x a r m e' s f y d u =
     followed L (call K v (thread i p st) k) h e (pend i p st) r m e' s
-    (λ o. parks K v i p k (standing L .object h e) (L .num h) x a (formed-queue K L h e (record { housed = record { words = s; room = o }; numbers = f })) y st) d u
+    (λ o. parks K v i p k (standing L .object h e) (L .num h) x a
+    (formed-queue K L h e (record { housed = record { words = s; room = o }; numbers = f })) y st) d u
 
 -- a number is read
 module _ (K : Kind) (L : Layout (K .Num)) (g : Object (K .Num) → ℤ) (h e : List ℕ) where

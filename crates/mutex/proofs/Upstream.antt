@@ -386,7 +386,9 @@ module _ (i p j c : ℕ) (q : List ℕ) (small : i < 4294967296) (valid : p < ma
     (room : length q < maxWaiters) (absent : holds i q ≡ false) where
   -- the thread joins
   pub lock-joins : lockOut i p running (whole (thread j) c q) ≡ accept (whole (thread j) c (joined (entry p i) q)) waits []
-  lock-joins = seated mutex-kind plain i p lock (whole (thread j) c q) (mk (thread j) c) tt waits (inv-formed (thread j) c q v) (rw (ne-eqb j i n)) small valid absent room
+  lock-joins =
+      seated mutex-kind plain i p lock (whole (thread j) c q) (mk (thread j) c) tt waits (inv-formed (thread j) c q v) (rw (ne-eqb j i n)) small valid absent
+      room
 
   blocks : Shows (LockBlocking (mk (thread j) c) q) (lockOut i p running) (whole (thread j) c q)
   blocks =
