@@ -47,7 +47,7 @@ module _ {K : Kind} (s : Sys K) (i o : ℕ) (k : K .Call) (n : K .Num) (h : s .s
       go (pos c) (allow m (wake p f) r) =
           record { ready = roused p f; others = λ t a x. rw (off t f (gone ident p q) a) }
 
--- and waited on this object, each once
+-- who is woken waited on this object, each once
 pub woken-waited : {K : Kind} (s : Sys K) → Fine s → (i o : ℕ) (k : K .Call) → Waited s o (called s i o k .2)
 woken-waited {K} s g i o k = go (s .slot o)
   where
@@ -93,6 +93,10 @@ readies-on s t u i l [] run z a b = record { ready = all l (a .ready); others = 
     cut : (l : List Woken) (x : ℕ) → All (λ (w : Woken). w .thread ≡ x → ⊥) (l ++ []) → All (λ (w : Woken). w .thread ≡ x → ⊥) l
     cut [] x y = tt
     cut (w ∷ l) x y = (y .0, cut l x (y .1))
+
+pub waited-on : {K : Kind} (s : Sys K) (o : ℕ) (l m : List Woken) → length m ≤ 0 → Waited s o l → Waited s o (l ++ m)
+waited-on s o l (y ∷ m) z t = absurd (omega (arith, z))
+waited-on s o l [] z t = rw (append-nil l) t
 
 -- the words of both
 pub told-on : (l m : List Woken) (w w' : ℕ) → length m ≤ 0 → w' ≡ first w (map word l) → w' ≡ first w (map word (l ++ m))

@@ -145,7 +145,7 @@ distinct (x ∷ q) s = (
   distinct q (s .1),
 )
 
--- and where nobody stands more often, no thread stands twice
+-- where each thread stands once at most, none waits twice
 pub single : (q : List ℕ) → ((t : ℕ) → times t q ≤ 1) → Single q
 single [] h = tt
 single (x ∷ q) h = (

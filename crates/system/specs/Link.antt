@@ -97,6 +97,7 @@ pub record Pairs {K : Kind} {M N : Type 0} (A : Layout M) (f : M → K .Num) (B 
   pub second : Is B g (step s (both i a j b k) .0) b (c .header) (c .entries)
   pub handed : Handed (step s (both i a j b k) .2) (u .lent) (u .filled)
   pub reads : map read (told n u) ≡ step s (both i a j b k) .2
+  pub waited : Waited s a (step s (both i a j b k) .2)
   pub readies : Readies s i (step s (both i a j b k) .2) (step s (both i a j b k) .0)
   pub caller : step s (both i a j b k) .0 .state i ≡ settle b (u .answer) (s .state i)
 
