@@ -26,7 +26,7 @@ use Rattle.kind.specs.Kind.{plain}
 use Rattle.kind.specs.Object.{Object, anyone, thread, reads, sane}
 use Rattle.kind.specs.History.{Event, calls, asks, next}
 use Rattle.kind.proofs.Memory.{Housed, housed-formed, is-on, malformed, shown}
-use Rattle.kind.proofs.Answers.{call-no, fitting-no, unseen}
+use Rattle.kind.proofs.Answers.{call-no, fitting-no, seated, unseen}
 use Rattle.kind.proofs.Forward.{leaves, housed-sane, woken-by, all-woken-by, short-by, opened-code, opened-made, start-refused}
 use Rattle.kind.proofs.Histories.{always, step}
 use Rattle.mutex.specs.Mutex.{Owner, nobody, Mutex, held, mutex-kind}
@@ -263,16 +263,8 @@ module _ (i p st : ℕ) (h e m d : List ℕ) (w : ℕ) (r : ℤ) (h' e' m' : Lis
   pub wait-joins : (a : ℕ) → release ≡ pos a → i < 4294967296 → p < maxPriority → st ≡ running → Housed layout h e
       → length (waiting e (getD h 0 0)) < maxWaiters → holds i (waiting e (getD h 0 0)) ≡ false → (r ≡ pos a) × Done
   wait-joins a g small valid runs c room absent =
-      let y : answer (reply place (waitOut i p st) h e) ≡ waits =
-      rw (
-        is-on layout (waitOut i p st) h e c,
-        runs,
-        lt-ltb p maxPriority valid,
-        ident-entry p i small,
-        absent,
-        lt-ltb
-            (length (waiting e (getD h 0 0))) maxWaiters room,
-      ) in
+      let y : reply place (waitOut i p st) h e ≡ accept (record { num = tt; queue = joined (entry p i) (waiting e (getD h 0 0)) }) waits [] =
+      is-on layout (waitOut i p st) h e c ∙ rw runs (seated condvar-kind plain i p wait (place .object h e) tt tt waits refl refl small valid absent room) in
       let z : r ≡ pos a = t .code ∙ rw (g, y) in
       (z, done a z)
 

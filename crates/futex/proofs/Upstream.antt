@@ -22,13 +22,12 @@ use Rattle.wait_queue.specs.Queue.{maxWaiters, entry, prio, ident, woken, waiti
 use Rattle.wait_queue.specs.Turn.{waits}
 use Rattle.wait_queue.specs.Upstream.{AllAreWoken}
 use Rattle.wait_queue.proofs.Memory.{is-roomy, blank, blank-roomy}
-use Rattle.wait_queue.proofs.Answers.{ident-entry}
 use Rattle.wait_queue.proofs.Well.{well-empty}
 use Rattle.kind.specs.Kind.{plain}
 use Rattle.kind.specs.Object.{Object, anyone, sane}
 use Rattle.kind.specs.History.{Event, calls, asks, next}
 use Rattle.kind.proofs.Memory.{Housed, is-on, malformed, shown}
-use Rattle.kind.proofs.Answers.{fitting-no}
+use Rattle.kind.proofs.Answers.{fitting-no, seated}
 use Rattle.kind.proofs.Forward.{leaves, housed-sane, all-woken-by, short-by}
 use Rattle.kind.proofs.Histories.{step}
 use Rattle.futex.specs.Futex.{Futex, Call, wait, wakeOne, wakeAll, futex-kind}
@@ -98,7 +97,7 @@ module _ (x i p v : ℕ) (q : List ℕ) (small : i < 4294967296) (valid : p < ma
     -- the value is the expected one, and there is a place
     wait-joins : length q < maxWaiters → holds i q ≡ false
         → waitOut x i p running (obj v q) ≡ accept (obj v (joined (entry p i) q)) waits []
-    wait-joins room absent = rw (lt-ltb p maxPriority valid, eq-eqb v x is, ident-entry p i small, absent, lt-ltb (length q) maxWaiters room)
+    wait-joins room absent = seated futex-kind plain i p (wait x) (obj v q) (mk v) tt waits refl (rw (eq-eqb v x is)) small valid absent room
 
   module _ (room : length q < maxWaiters) (absent : holds i q ≡ false) where
     pub wait-gating-condition : Gating x i p (obj v q)

@@ -7,18 +7,20 @@ use native.Mathlib.Omega.{arith}
 use lib.Dec.{ltb, leb}
 use lib.IntN.{ℤ, pos, negsuc}
 use lib.ListN.{length, getD, set, drop, length-map}
-use lib.Seq.{getD-set-same}
-use borrow.Author.Tests.{le-leb, lt-leb, leb-true, leb-false}
+use borrow.Author.Tests.{le-leb, lt-leb}
 use Rattle.seq.specs.List.{any}
 use Rattle.seq.proofs.Back.{back-length}
 use Rattle.thread.specs.Code.{ok, einval}
+use Rattle.thread.specs.Priority.{maxPriority}
+use Rattle.thread.specs.Thread.{running}
 use Rattle.thread.specs.Caller.{callerCode}
 use Rattle.store.specs.Store as store
-use Rattle.store.specs.Store.{Reply, refuse, accept, answer, out, asked, fitting, reply, Becomes, Did, looks, Filled, first, Fills, Hands}
+use Rattle.store.specs.Store.{Reply, refuse, accept, answer, out, asked, fitting, reply, Did, looks, Filled, first, Fills, Hands}
 use Rattle.store.proofs.Laws.{refuses-place, handed-is, carry-out, looks-is, looks-bad, answers, start-short, start-bad, start-made}
-use Rattle.wait_queue.specs.Queue.{entry, ident, woken, waiting, roomy}
-use Rattle.wait_queue.specs.Turn.{waitQueue, parked, pend, unpendFirst, unpendAll}
+use Rattle.wait_queue.specs.Queue.{maxWaiters, entry, ident, woken, waiting, holds, joined}
+use Rattle.wait_queue.specs.Turn.{waitQueue, waits, parked, pend, unpendFirst, unpendAll}
 use Rattle.wait_queue.specs.Post.{Pends, UnpendsFirst, UnpendsAll}
+use Rattle.wait_queue.proofs.Answers.{joined-line}
 use Rattle.kind.specs.Verdict.{upTo, everybody, keep, park, wake, Verdict, deny, allow}
 use Rattle.kind.specs.Kind.{Kind}
 use Rattle.kind.specs.Object.{Object, Caller, thread, name, code, carried, queued, fine, call, reads, Layout, standing, Opened, sane}
@@ -185,25 +187,30 @@ pub fitting-no : (K : Kind) (v : ℕ → K .Wish) (w : Caller) (k : K .Call) (ro
     → fitting room (call K v w k) s ≡ refuse einval
 fitting-no K v w k room s z = let y : 0 ≤ room = omega arith in rw (z, le-leb 0 room y)
 
--- the thread i of priority p in the state st waits, and no number changes
-module _ (K : Kind) (L : Layout (K .Num)) (v : ℕ → K .Wish) (i p st : ℕ) (k : K .Call) (h e : List ℕ) where
-  pub parks : (x : K .Wish) (a : ℤ) → fine K (standing L .object h e) ≡ true → verdict K L v (thread i p st) k h e ≡ allow (L .num h) (park x) a
-      → call K v (thread i p st) k (standing L .object h e) ≡ queued (L .num h) (pend i p st (waiting e (getD h (L .len) 0)))
-  parks x a f y = rw (f, y) (go (callerCode p st))
+-- the thread i of priority p is to wait
+module _ (K : Kind) (v : ℕ → K .Wish) (i p : ℕ) (k : K .Call) (s : Object (K .Num)) (m : K .Num) (x : K .Wish) (a : ℤ) (f : fine K s ≡ true)
+    (y : K .decide (s .num) v (map ident (s .queue)) i k ≡ allow m (park x) a) where
+  pub parks : (st : ℕ) → call K v (thread i p st) k s ≡ queued m (pend i p st (s .queue))
+  parks st = rw (f, y) (go (callerCode p st))
     where
-      go : (z : ℤ) → asked {S = Object (K .Num)} z (queued (L .num h) (parked (entry p i) (waiting e (getD h (L .len) 0))))
-          ≡ queued (L .num h) (asked z (parked (entry p i) (waiting e (getD h (L .len) 0))))
+      go : (z : ℤ) → asked {S = Object (K .Num)} z (queued m (parked (entry p i) (s .queue))) ≡ queued m (asked z (parked (entry p i) (s .queue)))
       go (pos c) = refl
       go (negsuc c) = refl
 
-  -- whatever the queue answers
-  pub waits-now : (x : K .Wish) (a r : ℤ) (m : ℕ) (e' : List ℕ) → suc (L .len) ≤ length h
-      → K .formed (L .num h) (ltb 0 (getD h (L .len) 0)) ≡ true → verdict K L v (thread i p st) k h e ≡ allow (L .num h) (park x) a
-      → Pends i p st (getD h (L .len) 0) e r m e' → L .num (set h (L .len) m) ≡ L .num h
-      → Did (standing L) (call K v (thread i p st) k) h e r (set h (L .len) m) e'
-  waits-now x a r m e' s f y d u =
-      followed L (call K v (thread i p st) k) h e (pend i p st) r m e' s
-      (λ o. parks x a (formed-queue K L h e (record { housed = record { words = s; room = o }; numbers = f })) y) d u
+  -- it runs, is not there, and there is room
+  pub seated : i < 4294967296 → p < maxPriority → holds i (s .queue) ≡ false → length (s .queue) < maxWaiters
+      → call K v (thread i p running) k s ≡ accept (record { num = m; queue = joined (entry p i) (s .queue) }) waits []
+  seated small valid absent room = parks running ∙ ap (queued m) (joined-line i p (s .queue) small valid absent room)
+
+-- in the state st, and no number changes: whatever the queue answers
+pub waits-now : (K : Kind) (L : Layout (K .Num)) (v : ℕ → K .Wish) (i p st : ℕ) (k : K .Call) (h e : List ℕ) (x : K .Wish) (a r : ℤ) (m : ℕ) (e' : List ℕ)
+    → suc (L .len) ≤ length h → K .formed (L .num h) (ltb 0 (getD h (L .len) 0)) ≡ true → verdict K L v (thread i p st) k h e ≡ allow (L .num h) (park x) a
+    → Pends i p st (getD h (L .len) 0) e r m e' → L .num (set h (L .len) m) ≡ L .num h
+    → Did (standing L) (call K v (thread i p st) k) h e r (set h (L .len) m) e'
+waits-now K L v i p st k h e x a r m e' s f y d u =
+    followed L (call K v (thread i p st) k) h e (pend i p st) r m e' s
+    (λ o. parks K v i p k (standing L .object h e) (L .num h) x a
+    (formed-queue K L h e (record { housed = record { words = s; room = o }; numbers = f })) y st) d u
 
 -- a number is read
 module _ (K : Kind) (L : Layout (K .Num)) (g : Object (K .Num) → ℤ) (h e : List ℕ) where

@@ -16,11 +16,11 @@ use Rattle.thread.specs.Thread.{running}
 use Rattle.store.specs.Store as store
 use Rattle.store.specs.Store.{Reply, refuse, accept, fitting, reply, Did, Filled}
 use Rattle.store.proofs.Laws.{became-so, kept}
-use Rattle.wait_queue.specs.Queue.{maxWaiters, entry, woken, waiting, joined, Well}
-use Rattle.wait_queue.specs.Turn.{waits, pend}
+use Rattle.wait_queue.specs.Queue.{maxWaiters, woken, waiting, Well}
+use Rattle.wait_queue.specs.Turn.{pend}
 use Rattle.wait_queue.specs.Upstream.{FirstIsWoken, AllAreWoken}
 use Rattle.wait_queue.proofs.Memory.{blank, blank-roomy}
-use Rattle.wait_queue.proofs.Answers.{ident-entry}
+use Rattle.wait_queue.proofs.Answers.{ident-entry, joined-line}
 use Rattle.kind.specs.Verdict.{upTo, everybody, keep, park, wake, deny, allow}
 use Rattle.kind.specs.Kind.{Kind}
 use Rattle.kind.specs.Object.{Object, queued, Caller, thread, code, call, Layout, standing, Opened, sane}
@@ -121,13 +121,13 @@ module _ (K : Kind) (L : Layout (K .Num)) (v : ℕ → K .Wish) (i p : ℕ) (k :
   pends : reply (standing L) (call K v (thread i p running) k) h e ≡ queued (L .num h) (pend i p running (waiting e (getD h (L .len) 0)))
   pends =
       is-on L (call K v (thread i p running) k) h e (is-sane K L h e s .housed)
-      ∙ parks K L v i p running k h e x a (formed-queue K L h e (is-sane K L h e s)) y
+      ∙ parks K v i p k (standing L .object h e) (L .num h) x a (formed-queue K L h e (is-sane K L h e s)) y running
 
   pub waits-by : Waits i p (L .num h) (waiting e (getD h (L .len) 0)) h e r (L .num h') (waiting e' (getD h' (L .len) 0)) h' e'
   waits-by =
       record {
-        joins = λ absent room. leaves L (call K v (thread i p running) k) h e r h' e' d {q = joined (entry p i) (waiting e (getD h (L .len) 0))} {c = waits} {o = []}
-            (pends ∙ rw (lt-ltb p maxPriority valid, ident-entry p i small, absent, lt-ltb (length (waiting e (getD h (L .len) 0))) maxWaiters room));
+        joins = λ absent room. leaves L (call K v (thread i p running) k) h e r h' e' d
+            (pends ∙ ap (queued (L .num h)) (joined-line i p (waiting e (getD h (L .len) 0)) small valid absent room));
         twice = λ z. denies L (call K v (thread i p running) k) h e r h' e' d (pends ∙ rw (lt-ltb p maxPriority valid, ident-entry p i small, z));
         full = λ absent b. denies L (call K v (thread i p running) k) h e r h' e' d
             (pends ∙ rw (lt-ltb p maxPriority valid, ident-entry p i small, absent, le-ltb (length (waiting e (getD h (L .len) 0))) maxWaiters b));

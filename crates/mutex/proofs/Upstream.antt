@@ -19,14 +19,13 @@ use Rattle.store.specs.Store.{Reply, refuse, accept, answer, left, reply, Did}
 use Rattle.store.proofs.Laws.{did-alike, kept, looks-is}
 use Rattle.wait_queue.specs.Queue.{maxWaiters, entry, prio, ident, woken, waiting, holds, joined, Well}
 use Rattle.wait_queue.specs.Turn.{waits}
-use Rattle.wait_queue.proofs.Answers.{ident-entry}
 use Rattle.wait_queue.proofs.Well.{well-empty}
 use Rattle.kind.specs.Kind.{plain}
 use Rattle.kind.specs.Object as object
 use Rattle.kind.specs.Object.{Object, named, reads, sane}
 use Rattle.kind.specs.History.{Event, calls, asks, next, Lasting}
 use Rattle.kind.proofs.Memory.{Housed, housed-formed, is-on, shown}
-use Rattle.kind.proofs.Answers.{call-no, unseen}
+use Rattle.kind.proofs.Answers.{call-no, seated, unseen}
 use Rattle.kind.proofs.Forward.{opened-code, opened-made}
 use Rattle.kind.proofs.Histories.{always, step}
 use Rattle.mutex.specs.Mutex.{Owner, nobody, thread, Mutex, Call, lock, tryLock, unlock, held, formed, maxCount, released, unlocked, transferred, free, taken, mutex-kind}
@@ -387,7 +386,9 @@ module _ (i p j c : ℕ) (q : List ℕ) (small : i < 4294967296) (valid : p < ma
     (room : length q < maxWaiters) (absent : holds i q ≡ false) where
   -- the thread joins
   pub lock-joins : lockOut i p running (whole (thread j) c q) ≡ accept (whole (thread j) c (joined (entry p i) q)) waits []
-  lock-joins = rw (inv-formed (thread j) c q v, lt-ltb p maxPriority valid, ne-eqb j i n, ident-entry p i small, absent, lt-ltb (length q) maxWaiters room)
+  lock-joins =
+      seated mutex-kind plain i p lock (whole (thread j) c q) (mk (thread j) c) tt waits (inv-formed (thread j) c q v) (rw (ne-eqb j i n)) small valid absent
+      room
 
   blocks : Shows (LockBlocking (mk (thread j) c) q) (lockOut i p running) (whole (thread j) c q)
   blocks =

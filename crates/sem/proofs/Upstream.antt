@@ -19,7 +19,6 @@ use Rattle.store.specs.Store.{Reply, accept, answer, left}
 use Rattle.store.proofs.Laws.{kept, looks-is}
 use Rattle.wait_queue.specs.Queue.{maxWaiters, entry, prio, ident, woken, waiting, holds, joined, Well}
 use Rattle.wait_queue.specs.Turn.{waits}
-use Rattle.wait_queue.proofs.Answers.{ident-entry}
 use Rattle.kind.specs.Kind.{plain}
 use Rattle.kind.specs.Object.{Object, anyone, thread, call, reads, sane}
 use Rattle.kind.specs.History.{Event, calls, asks, next, Good, Lasting}
@@ -30,7 +29,7 @@ use Rattle.sem.specs.Post.{layout, place, giveOut, tryTakeOut, takeOut, 
 use Rattle.sem.specs.Upstream.{Inv, Idle, GiveDecide, TakeDecide, Init, Give, TryTake, TakeBlocking, Reset, CountGet, LimitGet, NumWaiters}
 use Rattle.sem.specs.History.{fresh, after}
 use Rattle.sem.proofs.Law.{mk, Fine, is-fine, fine-is, idle, sem-lawful}
-use Rattle.kind.proofs.Answers.{call-no, fitting-no, unseen}
+use Rattle.kind.proofs.Answers.{call-no, fitting-no, seated, unseen}
 use Rattle.kind.proofs.Forward.{opened-code, opened-made}
 use Rattle.sem.proofs.Histories.{limit-next, sem-history}
 
@@ -189,7 +188,7 @@ module _ (c l : ℕ) (q : List ℕ) (i : Inv (mk c l) q) (z : Idle (mk c l) q) w
     pub waits-now : takeOut j p running (whole c l q) ≡ accept (whole c l (joined (entry p j) q)) waits []
     waits-now =
         let y : c ≤ 0 = omega arith in
-        rw (form, lt-ltb p maxPriority v, le-ltb 0 c y, ident-entry p j small, absent, lt-ltb (length q) maxWaiters room)
+        seated sem-kind plain j p take (whole c l q) (mk c l) tt waits form (rw (le-ltb 0 c y)) small v absent room
 
     blocks : TakeBlocking (mk c l) q (answer (takeOut j p running (whole c l q))) (left (takeOut j p running (whole c l q)) (whole c l q) .num) (left (takeOut j p running (whole c l q)) (whole c l q) .queue)
     blocks =

@@ -1,7 +1,7 @@
 -- Steps that are made in memory are steps of the object that it holds. Assumes nothing.
 use mathlib.Core.Path.{_≡_, refl, sym, ap, subst}
 use mathlib.Core.Bool.{Bool, true, false, cond}
-use mathlib.Core.List.{List, [], _∷_}
+use mathlib.Core.List.{List, [], _∷_, _++_}
 use Prim.Native.Nat.{ℕ, _≤_}
 use native.Mathlib.Omega.{arith}
 use lib.Dec.{leb}
@@ -9,7 +9,7 @@ use lib.IntN.{ℤ}
 use lib.ListN.{length}
 use Rattle.thread.specs.Code.{ok, einval}
 use Rattle.store.specs.Store.{Reply, refuse, accept, answer, left, out, Place, reply, After, Did, Filled, first, Hands, Started}
-use Rattle.store.specs.History.{Step, Ran, fresh, ran, Made, begun, made}
+use Rattle.store.specs.History.{Step, after, Ran, fresh, ran, Made, begun, made}
 use Rattle.store.proofs.Laws.{replies, answers, handed-is}
 
 module _ {S : Type 0} (P : Place S) where
@@ -28,6 +28,11 @@ module _ {S : Type 0} (P : Place S) where
       → R (answer (f (P .object h b))) (left (f (P .object h b)) (P .object h b)) → R r (P .object h' b')
   holds-after f h b R {r} e d a =
       subst (λ (s : S). R r s) (sym (done f h b e d .1)) (subst (λ (z : ℤ). R z (left (f (P .object h b)) (P .object h b))) (sym (answers P f h b d e)) a)
+
+-- a history of a history
+pub after-append : {S K : Type 0} (next : S → K → S) (s : S) (ks js : List K) → after next s (ks ++ js) ≡ after next (after next s js) ks
+after-append next s [] js = refl
+after-append {S} next s (k ∷ ks) js = ap (λ (t : S). next t k) (after-append next s ks js)
 
 -- a place for one
 pub first-filled : (l : List ℕ) (x y : ℕ) → length l ≤ 1 → y ≡ first x l → Filled l (x ∷ []) (y ∷ [])

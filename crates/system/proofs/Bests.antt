@@ -23,7 +23,7 @@ use Rattle.system.specs.Rules.{times, Fine, Start}
 use Rattle.system.specs.Run.{run}
 use Rattle.system.specs.Order.{Before, age, Best}
 use Rattle.system.specs.Life.{Calls, direct, former, latter, Life, stays, began, woken, late, back, aside, born}
-use Rattle.system.proofs.Times.{held, unheld, times-take, times-pick, on-is}
+use Rattle.system.proofs.Times.{unheld, times-take, picked}
 use Rattle.system.proofs.Calls.{barred, granted, called-fine}
 use Rattle.system.proofs.Steps.{always}
 use Rattle.system.proofs.Orders.{called-there, ordered}
@@ -88,7 +88,7 @@ module _ {K : Kind} (turn : Turnwise K) (s : Sys K) (g : Fine s) (i o : ℕ) (k 
   by-pick p f h l = go p f h l
     where
       w : s .state t ≡ waiting o
-      w = on-is o (s .state t) (omega (arith, held t (gone ident p q) h, times-pick t p q, g .placed o t))
+      w = picked s (g .placed) o t p h
 
       same : x ≡ o
       same = let e : waiting x ≡ waiting o = sym a ∙ w in cc

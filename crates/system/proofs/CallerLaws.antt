@@ -15,13 +15,13 @@ use Rattle.system.specs.System.{State, absent, waiting, number, Sys, don
 use Rattle.system.specs.Rules.{Fine}
 use Rattle.system.specs.Laws.{OfCallers, OfPairs}
 use Rattle.system.proofs.Calls.{barred}
-use Rattle.system.proofs.Effects.{barring}
+use Rattle.system.proofs.Effects.{no-object, refuses, barring}
 
 module _ {K : Kind} (s : Sys K) (g : Fine s) where
   pub callers : OfCallers step s
   callers =
       record {
-        nothing = λ i o k h. rw h;
+        nothing = λ i o k h. refuses s i o k 21 (no-object s i o k h);
         blocked =
             λ i o a k n h r.
             let e : callerCode (s .prio i) (number (s .state i)) ≡ ebusy = rw (r, lt-ltb (s .prio i) maxPriority (g .known i (λ z. two r z) .1)) in

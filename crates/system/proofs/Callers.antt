@@ -23,7 +23,7 @@ use Rattle.system.specs.Link.{Is, read, word, fate, Truthful, Steps}
 use Rattle.system.proofs.Sheets.{Fits}
 use Rattle.system.proofs.Parts.{wrapped, call-part}
 use Rattle.system.proofs.Woken.{Within, within-part, handed-out, handed-few, handed-read, handed-count}
-use Rattle.system.proofs.Readied.{call-readies}
+use Rattle.system.proofs.Readied.{call-readies, woken-waited}
 use Rattle.system.proofs.Fates.{Unparked, Fated, stays-fated, fated-part, caller-fate}
 use Rattle.system.proofs.Link.{tells, gives, leaves, in-none, in-word, read-all}
 
@@ -110,6 +110,7 @@ module _ {A K : Kind} (law : Lawful K) (P : Part A K) (fits : Fits P) (L : Layou
                 (subst (λ (d : Verdict (K .Num) (K .Wish)). Fated a d) (sym (fits .decides n (s .wish) (map ident q) i k))
                 (fated-part (P .num) (P .wish) a (A .decide n v (map ident q) i k) fates))
                 ∙ ap (λ (z : ℤ). fate a o z (s .state i)) (sym code);
+            waited = woken-waited s g i o (P .call k);
             readies = call-readies s i o (P .call k) (P .num n) (is .slot);
           }
 

@@ -24,7 +24,7 @@ use Rattle.kind.specs.Object.{Object, thread, carried}
 use Rattle.kind.proofs.Picks.{any-joined, any-map, spared-sub, spared-map}
 use Rattle.system.specs.System.{State, absent, running, ready, waiting, number, Slot, vacant, object, Sys, upd, states, unless, serve, thing, outcome, verdict, visited, called}
 use Rattle.system.specs.Rules.{times, on, Fine}
-use Rattle.system.proofs.Times.{times-joined, times-pick, held, unheld, not-held, on-is, on-one, all-list, list-all, distinct}
+use Rattle.system.proofs.Times.{times-joined, times-pick, held, unheld, not-held, on-one, picked, all-list, list-all, distinct}
 
 pub all-two : (P Q R : ℕ → Type 0) (l : List ℕ) → ((y : ℕ) → P y → Q y → R y) → All P l → All Q l → All R l
 all-two P Q R [] f a b = tt
@@ -111,16 +111,12 @@ module _ {K : Kind} (s : Sys K) (g : Fine s) (i o : ℕ) (n : K .Num) (h : s .sl
     here-woken t true z = rw z (omega (arith, held t (gone ident p q) z, times-pick t p q, g .placed o t, on-one o (s .state t)))
     here-woken t false z = rw z (omega (arith, unheld t (gone ident p q) z, times-pick t p q, g .placed o t))
 
-    -- who is woken waited here
-    waited : (t : ℕ) → holds t (gone ident p q) ≡ true → s .state t ≡ waiting o
-    waited t z = on-is o (s .state t) (omega (arith, held t (gone ident p q) z, times-pick t p q, g .placed o t))
-
     there-woken : (x t : ℕ) → (o ≡ x → ⊥) → (b : Bool) → holds t (gone ident p q) ≡ b → times t (s .queue x) ≡ on x (now t)
-    there-woken x t e true z = g .placed x t ∙ rw (z, waited t z, ne-eqb o x e)
+    there-woken x t e true z = g .placed x t ∙ rw (z, picked s (g .placed) o t p z, ne-eqb o x e)
     there-woken x t e false z = g .placed x t ∙ rw z
 
     known-woken : (t : ℕ) (b : Bool) → holds t (gone ident p q) ≡ b → (now t ≡ absent → ⊥) → s .state t ≡ absent → ⊥
-    known-woken t true z c = λ a. let v : waiting o ≡ absent = sym (waited t z) ∙ a in absurd (let x : _≡_ {A = ℕ} 0 1 = cc in omega arith)
+    known-woken t true z c = λ a. let v : waiting o ≡ absent = sym (picked s (g .placed) o t p z) ∙ a in absurd (let x : _≡_ {A = ℕ} 0 1 = cc in omega arith)
     known-woken t false z c = rw z at c
 
     wakes : K .formed m (any (spared ident p q)) ≡ true → Rightly K m (s .wish) (map ident (spared ident p q))
@@ -171,15 +167,15 @@ module _ {K : Kind} (s : Sys K) (g : Fine s) (i o : ℕ) (n : K .Num) (h : s .sl
         → All (λ y. K .Blocked k (ident y) (upd (s .wish) i x (ident y))) l
     wish-off k l z a =
         all-two (λ y. Other i y) (λ y. K .Blocked k (ident y) (s .wish (ident y))) (λ y. K .Blocked k (ident y) (upd (s .wish) i x (ident y))) l
-        (λ y n b. rw (ne-eqb i (ident y) (λ e. n (sym e))) b) (holds-none i l z) (all-list (λ t. K .Blocked k t (s .wish t)) l a)
+        (λ y n b. rw (ne-eqb i (ident y) (λ e. n (sym e))) b) (holds-none i l z) (all-list (λ t. K .Blocked k t (s .wish t)) ident l a)
 
     waits : K .formed m true ≡ true → K .Blocked m i x → Rightly K m (s .wish) (map ident q) → Fine (serve s i o wait joins)
     waits f b k =
         changed wait joins (λ t. times-joined t w q ∙ rw its (here-joined t (eqb i t) refl)) (λ y t n. there-joined y t n (eqb i t) refl)
-        (list-all (λ t. K .Blocked m t (upd (s .wish) i x t)) (joined w q)
+        (list-all (λ t. K .Blocked m t (upd (s .wish) i x t)) ident (joined w q)
         (all-insert prio (λ y. K .Blocked m (ident y) (upd (s .wish) i x (ident y))) w q (rw (its, eq-eqb i i refl) b)
         (wish-off m q (not-held i q (nowhere o)) k)))
-        (λ y l z n. list-all (λ t. K .Blocked l t (upd (s .wish) i x t)) (s .queue y)
+        (λ y l z n. list-all (λ t. K .Blocked l t (upd (s .wish) i x t)) ident (s .queue y)
         (wish-off l (s .queue y) (not-held i (s .queue y) (nowhere y)) (g .kept y l z)))
         (rw (any-joined w q) f)
         (well-joined w q (g .queues o) (rw its (not-held i q (nowhere o))) few (rw (prio-entry (s .prio i) i small) (g .known i there-is .1)))

@@ -10,7 +10,7 @@ use lib.ListN.{length, length-map}
 use borrow.Author.Tests.{eq-eqb, eqb-true, lt-ltb, le-ltb}
 use Rattle.seq.specs.List.{All}
 use Rattle.seq.proofs.Order.{cond-self}
-use Rattle.thread.specs.Code.{ok}
+use Rattle.thread.specs.Code.{ok, einval}
 use Rattle.wait_queue.specs.Queue.{maxWaiters, entry, prio, ident, holds, joined}
 use Rattle.wait_queue.proofs.Answers.{ident-entry}
 use Rattle.wait_queue.proofs.Insertion.{prio-entry}
@@ -18,7 +18,7 @@ use Rattle.kind.specs.Verdict.{upTo, everybody, keep, park, wake, Verdict, deny
 use Rattle.kind.specs.Kind.{Kind}
 use Rattle.store.specs.Store as store
 use Rattle.kind.specs.Object.{Object, thread, carried}
-use Rattle.system.specs.System.{State, absent, running, ready, waiting, Slot, object, Sys, invoke, Answer, done, reply, Woken, upd, deed, woken, unless, serve, thing, outcome, verdict, visited, called, step}
+use Rattle.system.specs.System.{State, absent, running, ready, waiting, Slot, vacant, object, Sys, invoke, Answer, done, reply, Woken, upd, deed, woken, unless, serve, thing, outcome, verdict, visited, called, step}
 use Rattle.system.specs.Rules.{on, Fine}
 use Rattle.system.specs.Effect.{Effect, is-now, has-wish, all-ready, has-numbers, has-queue, freed, put, puts, Place, woke, Does, Denies, Fails, Waits}
 use Rattle.system.proofs.Times.{held, unheld, not-held, on-is}
@@ -50,24 +50,27 @@ freed-off o r (waiting y) h = go (eqb y o) h
     go true z = absurd (omega arith)
     go false z = refl
 
--- a call that is refused
+-- a call of no object, and one that is refused
+pub no-object : {K : Kind} (s : Sys K) (i o : ℕ) (k : K .Call) → s .slot o ≡ vacant → called s i o k ≡ (s, einval, [])
+no-object {K} s i o k h = ap (λ (x : Slot (K .Num)). visited x s i o k) h
+
+pub refusing : {K : Kind} (s : Sys K) (i o : ℕ) (k : K .Call) (n : K .Num) → s .slot o ≡ object n → (c : ℕ)
+    → outcome s i o k n ≡ store.refuse (negsuc c) → called s i o k ≡ (s, negsuc c, [])
+refusing {K} s i o k n h c e =
+    ap (λ (x : Slot (K .Num)). visited x s i o k) h
+    ∙ ap (λ (y : store.Reply (Object (K .Num))). (
+      unless (store.answer y) s (serve s i o (verdict s i o k n) (store.left y (thing s o n))),
+      store.answer y,
+      unless (store.answer y) [] (woken (deed (verdict s i o k n)) (s .queue o)),
+    )) e
+
+-- as a step
+pub refuses : {K : Kind} (s : Sys K) (i o : ℕ) (k : K .Call) (c : ℕ) → called s i o k ≡ (s, negsuc c, []) → Denies step s (invoke i o k) (negsuc c)
+refuses {K} s i o k c e = ap (λ (x : Sys K × ℤ × List Woken). (x .0, reply (x .1), x .2)) e
+
 pub barring : {K : Kind} (s : Sys K) (i o : ℕ) (k : K .Call) (n : K .Num) → s .slot o ≡ object n → (c : ℕ)
-    → outcome s i o k n ≡ store.refuse (negsuc c)
-    → Denies step s (invoke i o k) (negsuc c)
-barring {K} s i o k n h c e = λ j. (p j, reply (q j), w j)
-  where
-    p : called s i o k .0 ≡ s
-    p =
-        ap (λ (x : Slot (K .Num)). visited x s i o k .0) h
-        ∙ ap (λ (y : store.Reply (Object (K .Num))). unless (store.answer y) s (serve s i o (verdict s i o k n) (store.left y (thing s o n)))) e
-
-    q : called s i o k .1 ≡ negsuc c
-    q = ap (λ (x : Slot (K .Num)). visited x s i o k .1) h ∙ ap store.answer e
-
-    w : called s i o k .2 ≡ []
-    w =
-        ap (λ (x : Slot (K .Num)). visited x s i o k .2) h
-        ∙ ap (λ (y : store.Reply (Object (K .Num))). unless (store.answer y) [] (woken (deed (verdict s i o k n)) (s .queue o))) e
+    → outcome s i o k n ≡ store.refuse (negsuc c) → Denies step s (invoke i o k) (negsuc c)
+barring s i o k n h c e = refuses s i o k c (refusing s i o k n h c e)
 
 -- a call of the thread i, which runs, by what the object decides
 module _ {K : Kind} (s : Sys K) (g : Fine s) (i o : ℕ) (k : K .Call) (n : K .Num) (h : s .slot o ≡ object n) (r : s .state i ≡ running) where
@@ -81,8 +84,11 @@ module _ {K : Kind} (s : Sys K) (g : Fine s) (i o : ℕ) (k : K .Call) (n : K .N
       → Does step s (invoke i o k) (done (pos c)) es (woken (deed d) (s .queue o))
   by d c es y z e = λ j. ((served s g i o k n h r d c y z ∙ e) j, reply ((answered s g i o k n h r d y ∙ z) j), tells-whom d c y z j)
 
+  pub denied : (c : ℕ) → verdict s i o k n ≡ deny (negsuc c) → called s i o k ≡ (s, negsuc c, [])
+  denied c y = refusing s i o k n h c (decided s g i o k n h r (deny (negsuc c)) y)
+
   pub denies : (c : ℕ) → verdict s i o k n ≡ deny (negsuc c) → Fails step s i o k (negsuc c)
-  denies c y = barring s i o k n h c (decided s g i o k n h r (deny (negsuc c)) y)
+  denies c y = refuses s i o k c (denied c y)
 
   -- numbers that stay
   uncounted : (a : Answer) (es : List (Effect K)) (w : List Woken) → Does step s (invoke i o k) a (has-numbers o n ∷ es) w → Does step s (invoke i o k) a es w

@@ -1,6 +1,5 @@
 -- The worked run of document 01 with its threads, computed. Assumes nothing.
 use mathlib.Core.Path.{_≡_, refl}
-use mathlib.Core.Logic.{inl}
 use mathlib.Core.List.{List, [], _∷_, map}
 use Prim.Native.Nat.{ℕ, zero, suc}
 use native.Mathlib.Omega.{arith}
@@ -11,16 +10,12 @@ use Rattle.sem.specs.Sem.{give, take, reset}
 use Rattle.sem.specs.Post.{layout}
 use Rattle.mutex.specs.Mutex as mutex
 use Rattle.condvar.specs.Condvar as condvar
-use Rattle.system.specs.System.{State, absent, running, ready, waiting, Slot, vacant, object, Sys, Op, invoke, both, dispatch, expire, spawn, create, Answer, done, denied, step, after}
-use Rattle.system.specs.Rules.{Fine, Start}
-use Rattle.system.specs.Rtos.{rtos, aSem, aMutex, aCondvar, semCall, mutexCall, condvarCall}
+use Rattle.system.specs.System.{State, running, ready, waiting, Slot, object, Op, invoke, both, dispatch, expire, spawn, create, Answer, done, denied, step, after}
+use Rattle.system.specs.Rules.{Fine}
+use Rattle.system.specs.Rtos.{members, rtos, bare, aSem, aMutex, aCondvar, semCall, mutexCall, condvarCall}
 use Rattle.system.specs.Link.{Is}
-use Rattle.system.proofs.Steps.{always}
+use Rattle.system.proofs.Steps.{empty-start, always}
 use Rattle.system.proofs.Rtos.{rtos-lawful}
-
--- no threads and no objects
-abbrev bare : Sys rtos
-bare = record { prio = λ t. 0; state = λ t. absent; wish = λ t. inl tt; slot = λ o. vacant; queue = λ o. [] }
 
 -- the newest in front
 abbrev begun : List (Op rtos)
@@ -36,11 +31,8 @@ given zero = taken
 given (suc n) = invoke 1 0 (semCall give) ∷ given n
 
 -- whatever is done, all that holds of threads and objects together holds
-pub bare-start : Start bare
-bare-start = record { none = λ o. refl; empty = λ o. refl; awake = λ o t. refl; known = λ t n. absurd (n refl) }
-
 pub all-fine : (past : List (Op rtos)) → Fine (after bare past)
-all-fine = always rtos-lawful bare bare-start
+all-fine = always rtos-lawful bare (empty-start (members .idle))
 
 -- the queue is 3, 7, 9
 pub queue-is : map ident (after bare taken .queue 0) ≡ 3 ∷ 7 ∷ 9 ∷ []

@@ -1,7 +1,8 @@
 -- A refusal changes nothing, and what a step can do to a thread. Assumes nothing.
 use mathlib.Core.Path.{_≡_, refl, sym, ap, _∙_}
 use mathlib.Core.Bool.{Bool, true, false, cond}
-use mathlib.Core.List.{List, [], _∷_, _++_, map}
+use mathlib.Core.Logic.{_⊎_, inl, inr}
+use mathlib.Core.List.{List, [], _++_, map}
 use Prim.Native.Nat.{ℕ}
 use native.Mathlib.Omega.{arith}
 use lib.Dec.{eqb, ltb}
@@ -14,6 +15,7 @@ use Rattle.thread.specs.Code.{ok, eagain, einval}
 use Rattle.thread.specs.Priority.{valid}
 use Rattle.thread.specs.Caller.{callerCode}
 use Rattle.wait_queue.specs.Queue.{maxWaiters, entry, ident, holds}
+use Rattle.wait_queue.proofs.Well.{in-all}
 use Rattle.store.specs.Store as store
 use Rattle.kind.specs.Verdict.{gone, keep, park, wake, Verdict, deny, allow}
 use Rattle.kind.specs.Kind.{Kind, Lawful, Right}
@@ -23,7 +25,7 @@ use Rattle.system.specs.System.{State, absent, running, ready, waiting, 
 use Rattle.system.specs.System as system
 use Rattle.system.specs.Rules.{Fine}
 use Rattle.system.specs.Life.{Calls, direct, former, latter, Life, stays, began, woken, late, back, aside, born}
-use Rattle.system.proofs.Times.{held, times-pick, on-is, distinct}
+use Rattle.system.proofs.Times.{picked, all-list, distinct}
 use Rattle.system.proofs.Quiet.{quiet}
 use Rattle.system.proofs.Calls.{runs, barred, granted, called-fine}
 
@@ -118,12 +120,7 @@ pub data Does (K : Kind) (v : ℕ → K .Wish) (i o : ℕ) (k : K .Call) (t : �
 
 -- of those that are woken, each is owed its result
 pub owed : (P : ℕ → Type 0) (t : ℕ) (q : List ℕ) → holds t q ≡ true → All P (map ident q) → P t
-owed P t [] h a = clash (sym h)
-owed P t (x ∷ q) h a = go (eqb (ident x) t) refl h (λ z. owed P t q z (a .1))
-  where
-    go : (b : Bool) → eqb (ident x) t ≡ b → cond b true (holds t q) ≡ true → (holds t q ≡ true → P t) → P t
-    go true e z ih = rw (sym (eqb-true (ident x) t e)) (a .0)
-    go false e z ih = ih z
+owed P t q h a = in-all P q t (all-list P ident q a) h
 
 module _ {K : Kind} (law : Lawful K) (s : Sys K) (g : Fine s) (i o : ℕ) (k : K .Call) (n : K .Num) (h : s .slot o ≡ object n) (t : ℕ) where
   abbrev q : List ℕ
@@ -141,7 +138,7 @@ module _ {K : Kind} (law : Lawful K) (s : Sys K) (g : Fine s) (i o : ℕ) (k : K
     where
       go : (b : Bool) → holds t (gone ident p q) ≡ b → Does K (s .wish) i o k t (s .state t) (cond b (ready (f t)) (s .state t))
       go true e =
-          let w : s .state t ≡ waiting o = on-is o (s .state t) (omega (arith, held t (gone ident p q) e, times-pick t p q, g .placed o t)) in
+          let w : s .state t ≡ waiting o = picked s (g .placed) o t p e in
           wakes (f t) (λ z. let y : waiting o ≡ running = sym w ∙ ap (s .state) z ∙ r in absurd (let x : _≡_ {A = ℕ} 0 1 = cc in omega arith)) w refl
           (owed (λ x. K .Owes k (s .wish x) (f x)) t (gone ident p q) e (rw (gone-map ident p q) at (a .1)))
       go false e = nothing refl
@@ -173,6 +170,16 @@ called-does {K} law s g i o k t = go (s .slot o) refl
             (by-verdict law s g i o k n h t (verdict s i o k n) (runs (s .prio i) (s .state i) c z)
             (law .right n (s .wish) (map ident (s .queue o)) i k (rw (any-map ident (s .queue o)) (g .formed o n h))
             (distinct (s .queue o) (g .queues o .single)) (g .kept o n h)))
+
+-- after a call the caller runs on, or waits on this object
+pub caller-life : {K : Kind} → Lawful K → (s : Sys K) → Fine s → (i o : ℕ) (k : K .Call) → s .state i ≡ running
+    → (called s i o k .0 .state i ≡ running) ⊎ (called s i o k .0 .state i ≡ waiting o)
+caller-life {K} law s g i o k run = go (called-does law s g i o k i)
+  where
+    go : Does K (s .wish) i o k i (s .state i) (called s i o k .0 .state i) → (called s i o k .0 .state i ≡ running) ⊎ (called s i o k .0 .state i ≡ waiting o)
+    go (nothing e) = inl (e ∙ run)
+    go (waits e r w) = inr w
+    go (wakes r n f w d) = absurd (n refl)
 
 -- a call changes no wish but its caller's
 called-wish : {K : Kind} (s : Sys K) (i o : ℕ) (k : K .Call) (t : ℕ) → (t ≡ i → ⊥) → called s i o k .0 .wish t ≡ s .wish t

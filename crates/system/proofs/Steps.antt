@@ -16,7 +16,7 @@ use Rattle.wait_queue.specs.Queue.{entry, ident, of, without, Well}
 use Rattle.wait_queue.proofs.Well.{Other, holds-none, well-empty, well-sub}
 use Rattle.kind.specs.Kind.{Kind, Lawful, Rightly}
 use Rattle.system.specs.System.{answers, State, absent, running, ready, waiting, Slot, vacant, object, Sys, Op, invoke, both, dispatch, yield, expire, spawn, create, upd, unless, free, gone-by, called, setState, dispatched, yielded, left, expired, spawned, created, step, after, Reply, accept, refuse, paired, placed}
-use Rattle.system.specs.Rules.{times, on, Fine, Start}
+use Rattle.system.specs.Rules.{times, on, Fine, empty, Start}
 use Rattle.system.proofs.Times.{times-without, not-held, all-list, list-all}
 use Rattle.system.proofs.Calls.{called-fine}
 
@@ -93,9 +93,9 @@ module _ {K : Kind} (s : Sys K) (g : Fine s) where
         keep : (x : ℕ) (n : K .Num) → s .slot x ≡ object n → (a : Bool) → eqb o x ≡ a
             → Rightly K n (s .wish) (map ident (cond a (without i (s .queue o)) (s .queue x)))
         keep x n z true u =
-            list-all (λ t. K .Blocked n t (s .wish t)) (without i (s .queue o))
+            list-all (λ t. K .Blocked n t (s .wish t)) ident (without i (s .queue o))
             (sub-holds (λ y. K .Blocked n (ident y) (s .wish (ident y))) (others-sub (of i) (s .queue o))
-            (all-list (λ t. K .Blocked n t (s .wish t)) (s .queue o) (g .kept o n (rw (sym (eqb-true o x u)) at z))))
+            (all-list (λ t. K .Blocked n t (s .wish t)) ident (s .queue o) (g .kept o n (rw (sym (eqb-true o x u)) at z))))
         keep x n z false u = g .kept x n z
 
         form : (x : ℕ) (n : K .Num) → s .slot x ≡ object n → (a : Bool) → eqb o x ≡ a → K .formed n (any (cond a (without i (s .queue o)) (s .queue x))) ≡ true
@@ -208,6 +208,9 @@ module _ {K : Kind} (s : Sys K) (g : Fine s) where
           none x false u y = g .bare x y
 
 -- every operation
+pub empty-start : {K : Kind} (x : K .Wish) → Start (empty {K = K} x)
+empty-start x = record { none = λ o. refl; empty = λ o. refl; awake = λ o t. refl; known = λ t n. absurd (n refl) }
+
 module _ {K : Kind} (law : Lawful K) where
   pub step-fine : (s : Sys K) (x : Op K) → Fine s → Fine (step s x .0)
   step-fine s (invoke i o k) g = called-fine law s g i o k

@@ -11,10 +11,10 @@ use Rattle.seq.specs.List.{chosen, others, All}
 use Rattle.seq.proofs.Order.{clash, cond-same, all-map}
 use Rattle.wait_queue.specs.Queue.{prio, ident, holds, joined, without, Single}
 use Rattle.wait_queue.proofs.Well.{Other, holds-none}
-use Rattle.kind.specs.Kind.{Distinct}
+use Rattle.kind.specs.Kind.{Kind, Distinct}
 use Rattle.kind.specs.Verdict.{Pick, upTo, everybody, those, gone, spared}
-use Rattle.system.specs.System.{State, absent, running, ready, waiting, upd}
-use Rattle.system.specs.Rules.{times, on}
+use Rattle.system.specs.System.{State, absent, running, ready, waiting, Sys, upd}
+use Rattle.system.specs.Rules.{times, on, Placed}
 
 pub times-joined : (t w : ℕ) (q : List ℕ) → times t (joined w q) ≡ cond (eqb (ident w) t) (suc (times t q)) (times t q)
 times-joined t w [] = refl
@@ -116,6 +116,10 @@ on-one o (waiting y) = go (eqb y o)
     go true = omega arith
     go false = omega arith
 
+-- who is picked waited there
+pub picked : {K : Kind} (s : Sys K) → Placed s → (o t : ℕ) (p : Pick) → holds t (gone ident p (s .queue o)) ≡ true → s .state t ≡ waiting o
+picked s g o t p z = on-is o (s .state t) (omega (arith, held t (gone ident p (s .queue o)) z, times-pick t p (s .queue o), g o t))
+
 -- a table at a place, and at another
 pub upd-at : {A : Type 0} (f : ℕ → A) (i : ℕ) (x : A) → upd f i x i ≡ x
 upd-at f i x = rw (eq-eqb i i refl)
@@ -123,20 +127,32 @@ upd-at f i x = rw (eq-eqb i i refl)
 pub upd-off : {A : Type 0} (f : ℕ → A) (i : ℕ) (x : A) (t : ℕ) → (i ≡ t → ⊥) → upd f i x t ≡ f t
 upd-off f i x t n = rw (ne-eqb i t n)
 
--- a list of threads
-pub all-list : (P : ℕ → Type 0) (q : List ℕ) → All P (map ident q) → All (λ x. P (ident x)) q
-all-list P [] a = tt
-all-list P (x ∷ q) a = (a .0, all-list P q (a .1))
+-- what holds of each of a list that is made of another
+pub all-list : {A : Type 0} (P : A → Type 0) (f : ℕ → A) (q : List ℕ) → All P (map f q) → All (λ x. P (f x)) q
+all-list P f [] a = tt
+all-list P f (x ∷ q) a = (a .0, all-list P f q (a .1))
 
-pub list-all : (P : ℕ → Type 0) (q : List ℕ) → All (λ x. P (ident x)) q → All P (map ident q)
-list-all P [] a = tt
-list-all P (x ∷ q) a = (a .0, list-all P q (a .1))
+pub list-all : {A : Type 0} (P : A → Type 0) (f : ℕ → A) (q : List ℕ) → All (λ x. P (f x)) q → All P (map f q)
+list-all P f [] a = tt
+list-all P f (x ∷ q) a = (a .0, list-all P f q (a .1))
 
 -- who stands in a queue once is no other there
 pub distinct : (q : List ℕ) → Single q → Distinct (map ident q)
 distinct [] s = tt
 distinct (x ∷ q) s = (
-  list-all (λ u. ident x ≡ u → ⊥) q (all-map (Other (ident x)) (λ y. ident x ≡ ident y → ⊥) q (λ y n e. n (sym e))
+  list-all (λ u. ident x ≡ u → ⊥) ident q (all-map (Other (ident x)) (λ y. ident x ≡ ident y → ⊥) q (λ y n e. n (sym e))
       (holds-none (ident x) q (s .0))),
   distinct q (s .1),
 )
+
+-- where each thread stands once at most, none waits twice
+pub single : (q : List ℕ) → ((t : ℕ) → times t q ≤ 1) → Single q
+single [] h = tt
+single (x ∷ q) h = (
+  not-held (ident x) q (let z : suc (times (ident x) q) ≤ 1 = rw (eq-eqb (ident x) (ident x) refl) at (h (ident x)) in omega arith),
+  single q (λ t. omega (arith, h t, more t (eqb (ident x) t))),
+)
+  where
+    more : (t : ℕ) (b : Bool) → times t q ≤ cond b (suc (times t q)) (times t q)
+    more t true = omega arith
+    more t false = omega arith

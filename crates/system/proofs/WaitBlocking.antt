@@ -25,7 +25,7 @@ use Rattle.system.specs.Functions.{Memory, Use, heard, onlyAt, WaitedWit
 use Rattle.system.specs.Link.{Is, read, Handed, settle, Truthful, Pairs, LinksBoth}
 use Rattle.system.proofs.Sheets.{Fits}
 use Rattle.system.proofs.Link.{read-all}
-use Rattle.system.proofs.Waiting.{both-tell, first-is, second-is, hands, count, reads-both, ready-both, last}
+use Rattle.system.proofs.Waiting.{both-tell, first-is, second-is, hands, count, reads-both, ready-both, waited-both, last}
 
 module _ {K : Kind} (law : Lawful K) (P : Part mutex-kind K) (fits : Fits P) (C : Part condvar-kind K) (fitting : Fits C)
     (s : Sys K) (g : Fine s) (i a b : ℕ) (off : a ≡ b → ⊥) (u : Use) (c c' : Memory) (x : Is lock.layout (P .num) s a (u .before .header) (u .before .entries))
@@ -69,6 +69,7 @@ module _ {K : Kind} (law : Lawful K) (P : Part mutex-kind K) (fits : Fits P) (C 
         second = rw (ne-eqb a b off, l) (moved y (kept n z .0) (kept n z .1));
         handed = rw (ne-eqb a b off, l) (d .filled ∙ ap (λ (v : ℕ). v ∷ []) (kept n z .3) ∙ sym (d .lent));
         reads = rw (ne-eqb a b off, l) (ap (λ (r : ℤ). map read (take (heard (onlyAt 2) r) (u .filled))) z);
+        waited = rw (ne-eqb a b off, l) (record { there = tt; once = tt });
         readies = rw (ne-eqb a b off, l) (record { ready = tt; others = λ v w o. refl });
         caller = rw (ne-eqb a b off, l) (ap (λ (r : ℤ). settle b r (s .state i)) (sym z));
       }
@@ -123,6 +124,9 @@ module _ {K : Kind} (law : Lawful K) (P : Part mutex-kind K) (fits : Fits P) (C 
                 rw (ne-eqb a b off, told)
                 (last law P fits C fitting s g i a b off h e q l x y n told v f (u .answer) q' l' m (does .1 .0) (does .0) ∙ ap
                 (λ (r : ℤ). settle b r (s .state i)) (sym z));
+            waited =
+                rw (ne-eqb a b off, told)
+                (waited-both law P fits C fitting s g i a b off h e q l x y n told v f (u .answer) q' l' m (does .1 .0) (does .0));
             readies = rw (ne-eqb a b off, told) (ready-both law P fits C fitting s g i a b off h e q l x y n told v f (u .answer) q' l' m (does .1 .0) (does .0));
           }
 

@@ -28,12 +28,12 @@ use Rattle.system.specs.Sum.{mapped}
 use Rattle.system.specs.System.{State, running, waiting, number, Sys, outcome, verdict, called, answers}
 use Rattle.system.specs.Rules.{Fine}
 use Rattle.system.specs.Functions.{heard, nobody, single, onlyAt}
-use Rattle.system.specs.Link.{Is, read, word, fate, Handed, Readies}
+use Rattle.system.specs.Link.{Is, read, word, fate, Handed, Readies, Waited}
 use Rattle.system.proofs.Calls.{runs, barred, called-fine}
 use Rattle.system.proofs.Sheets.{Fits}
 use Rattle.system.proofs.Parts.{wrapped, call-part}
 use Rattle.system.proofs.Woken.{Within, within-part, handed-few, handed-read, handed-count}
-use Rattle.system.proofs.Readied.{call-readies, readies-on, told-on, read-on, length-same, length-on}
+use Rattle.system.proofs.Readied.{call-readies, woken-waited, readies-on, waited-on, told-on, read-on, length-same, length-on}
 use Rattle.system.proofs.Link.{tells, gives, leaves, in-word, prio-kept, slot-kept, queue-kept, is-kept}
 use Rattle.system.proofs.Fates.{Unparked, Fated, caller-fate, still}
 use Rattle.system.proofs.Functions.{unlocks-unparked, unlocks-within}
@@ -166,6 +166,9 @@ module _ {K : Kind} (law : Lawful K) (P : Part mutex-kind K) (fits : Fits P) (C 
         readies-on s mid end i (called s i a release .2) (called mid i b await .2) (state-mid k z ∙ run k z) second-none
         (call-readies s i a release (P .num n) (x .slot))
         (call-readies mid i b await (C .num tt) (y-mid .slot))
+
+    pub waited-both : Waited s a (called s i a release .2 ++ called mid i b await .2)
+    waited-both = waited-on s a (called s i a release .2) (called mid i b await .2) second-none (woken-waited s g i a release)
 
     -- as many words as the first's answer says
     pub count : length (called s i a release .2 ++ called mid i b await .2) ≡ heard (onlyAt 2) (answer given)

@@ -1,7 +1,6 @@
 -- A history of the code in memory, computed: a semaphore is made, thread 7 takes and waits, thread 1 gives and is told 7. Assumes nothing.
 use mathlib.Core.Bool.{true, false}
 use mathlib.Core.Path.{_≡_, refl}
-use mathlib.Core.Logic.{inl}
 use mathlib.Core.List.{List, [], _∷_}
 use Prim.Native.Nat.{ℕ, zero, suc}
 use native.Mathlib.Omega.{arith}
@@ -11,19 +10,16 @@ use Rattle.thread.specs.Code.{ok}
 use Rattle.store.proofs.Laws.{no-code}
 use Rattle.wait_queue.specs.Queue.{maxWaiters, entry}
 use Rattle.sem.specs.Sem as sem
-use Rattle.system.specs.System.{absent, running, ready, vacant, Sys, invoke, dispatch, spawn, create, done, upd}
-use Rattle.system.specs.Rtos.{rtos, aSem, semCall}
+use Rattle.system.specs.System.{running, ready, invoke, dispatch, spawn, create, done, upd}
+use Rattle.system.specs.Rtos.{members, rtos, bare, aSem, semCall}
 use Rattle.system.specs.Functions.{Memory, Use, nobody, onlyAt, give, takeBlocking}
 use Rattle.system.specs.Link.{fate}
 use Rattle.system.specs.World.{World, Event, seen, quiet, Elsewhere}
 use Rattle.system.specs.History.{calls, inits, moves, Ran, begun, then, Follows}
 use Rattle.system.specs.Library.{stock, aSemaphore, library}
-use Rattle.system.proofs.Steps.{always}
+use Rattle.system.proofs.Steps.{empty-start, always}
 use Rattle.system.proofs.Rtos.{rtos-lawful}
 use Rattle.system.proofs.Library.{code-histories}
-
-abbrev bare : Sys rtos
-bare = record { prio = λ t. 0; state = λ t. absent; wish = λ t. inl tt; slot = λ o. vacant; queue = λ o. [] }
 
 -- every object is a semaphore
 abbrev sort : ℕ → stock .Sort
@@ -141,11 +137,5 @@ ran =
 -- so the system did the same: its answers and its words are these, and the memory is its state
 pub followed : Follows library sort bare empty events given
 followed =
-    code-histories sort bare (always rtos-lawful bare (record {
-      none = λ o. refl;
-      empty = λ o. refl;
-      awake = λ o t. refl;
-      known = λ t n. absurd
-          (n refl);
-    }) []) empty
+    code-histories sort bare (always rtos-lawful bare (empty-start (members .idle)) []) empty
     (λ o n e. absurd (let y : _≡_ {A = ℕ} 0 1 = cc in omega arith)) events given ran

@@ -11,7 +11,7 @@ use Rattle.seq.specs.List.{All}
 use Rattle.wait_queue.specs.Queue.{ident, woken, roomy}
 use Rattle.wait_queue.specs.Queue as queue
 use Rattle.store.specs.Store.{Filled, Allowed}
-use Rattle.kind.specs.Kind.{Kind}
+use Rattle.kind.specs.Kind.{Kind, Distinct}
 use Rattle.kind.specs.Object.{Layout}
 use Rattle.system.specs.System.{State, running, ready, waiting, number, object, Sys, Op, both, reply, Woken, called, step}
 use Rattle.system.specs.Part.{Part}
@@ -45,6 +45,11 @@ pub record Readies {K : Kind} (s : Sys K) (i : ℕ) (l : List Woken) (u : Sys K)
   pub ready : All (λ w. u .state (w .thread) ≡ ready (w .result)) l
   pub others : (t : ℕ) → All (λ w. w .thread ≡ t → ⊥) l → (i ≡ t → ⊥) → u .state t ≡ s .state t
 
+-- the threads of l waited on o, each once
+pub record Waited {K : Kind} (s : Sys K) (o : ℕ) (l : List Woken) : Type 0 where
+  pub there : All (λ w. s .state (w .thread) ≡ waiting o) l
+  pub once : Distinct (map (λ w. w .thread) l)
+
 -- the caller's state x, after a function answered r: where it asks (a) and the answer is 1, the caller waits on o
 abbrev pub fate : Bool → ℕ → ℤ → State → State
 fate a o (pos r) x = cond a (cond (eqb r 1) (waiting o) x) x
@@ -73,6 +78,7 @@ pub record Steps {K : Kind} {N : Type 0} (L : Layout N) (num : N → K .Num) (s 
   pub is : Is L num (called s i o k .0) o (u .after .header) (u .after .entries)
   pub handed : Handed (called s i o k .2) (u .lent) (u .filled)
   pub reads : map read (told c u) ≡ called s i o k .2
+  pub waited : Waited s o (called s i o k .2)
   pub readies : Readies s i (called s i o k .2) (called s i o k .0)
   pub caller : called s i o k .0 .state i ≡ fate a o (u .answer) (s .state i)
 
@@ -91,6 +97,7 @@ pub record Pairs {K : Kind} {M N : Type 0} (A : Layout M) (f : M → K .Num) (B 
   pub second : Is B g (step s (both i a j b k) .0) b (c .header) (c .entries)
   pub handed : Handed (step s (both i a j b k) .2) (u .lent) (u .filled)
   pub reads : map read (told n u) ≡ step s (both i a j b k) .2
+  pub waited : Waited s a (step s (both i a j b k) .2)
   pub readies : Readies s i (step s (both i a j b k) .2) (step s (both i a j b k) .0)
   pub caller : step s (both i a j b k) .0 .state i ≡ settle b (u .answer) (s .state i)
 

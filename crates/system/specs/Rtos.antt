@@ -9,6 +9,8 @@ use Rattle.condvar.specs.Condvar as condvar
 use Rattle.condvar.specs.Condvar.{condvar-kind}
 use Rattle.futex.specs.Futex as futex
 use Rattle.futex.specs.Futex.{Futex, futex-kind}
+use Rattle.system.specs.System.{Sys}
+use Rattle.system.specs.Rules.{empty}
 use Rattle.system.specs.Part.{Part}
 use Rattle.system.specs.Sum.{Member, Members, end, _&_, own, sum, first, later, partOf}
 use Rattle.system.specs.SemRules.{SemMakes, SemRules}
@@ -42,6 +44,9 @@ members = sum kinds
 
 abbrev pub rtos : Kind
 rtos = members .kind
+
+abbrev pub bare : Sys rtos
+bare = empty (members .idle)
 
 -- the numbers of an object of each kind, and its calls
 abbrev pub aSem : Sem → rtos .Num

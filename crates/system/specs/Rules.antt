@@ -57,6 +57,10 @@ pub record Fine {K : Kind} (s : Sys K) : Type 0 where
   pub own : Own s
   pub known : Known s
 
+-- no threads and no objects; x: the wish of a thread that is not there
+abbrev pub empty : {K : Kind} → K .Wish → Sys K
+empty x = record { prio = λ t. 0; state = λ t. absent; wish = λ t. x; slot = λ o. vacant; queue = λ o. [] }
+
 -- at the start there is no object, and nobody waits
 pub record Start {K : Kind} (s : Sys K) : Type 0 where
   pub none : (o : ℕ) → s .slot o ≡ vacant
