@@ -1,4 +1,6 @@
 // The condition variable, a wait queue, in place: Gale's condvar.rs. h: how many wait; e: the queue of those.
+#![tactic(auto)]
+
 ghost use Rattle.std.specs.Prelude.{◌≡◌};
 ghost use Rattle.kind.specs.Object.{sane};
 ghost use Rattle.condvar.specs.Condvar.{condvar_kind};

@@ -1,5 +1,7 @@
 // The worked run of a semaphore of count 0 and limit 2: three threads take and wait, and six gives. Then two refusals and a reset.
 // Each answer that is expected here is proved. Each call prints its line.
+#![tactic(auto)]
+
 ghost use Rattle.std.specs.Prelude.{◌≤◌, ◌<◌, length};
 ghost use Rattle.thread.specs.Thread.{running};
 ghost use Rattle.sem.specs.Post.{Starts, Gives, Takes, Resets};

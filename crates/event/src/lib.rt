@@ -1,4 +1,6 @@
 // Event flags, in place: Gale's event.rs. h: the word of flags, one in each bit.
+#![tactic(auto)]
+
 ghost use Rattle.std.specs.Prelude.{◌≡◌};
 ghost use Rattle.event.specs.Event.{post, set, clear, any_there, all_there, met};
 ghost use Rattle.event.specs.Post.{Starts, Posts, Sets, SetsMasked, Clears, ChecksAny, ChecksAll, GetsEvents, WaitDecided, PostDecided};

@@ -1,4 +1,6 @@
 // The futex with its wait queue, in place: Gale's futex.rs. h: the value, how many wait; e: the queue of those.
+#![tactic(auto)]
+
 ghost use Rattle.std.specs.Prelude.{◌≡◌};
 ghost use Rattle.kind.specs.Object.{sane};
 ghost use Rattle.futex.specs.Futex.{futex_kind};

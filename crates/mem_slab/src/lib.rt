@@ -1,5 +1,7 @@
 // The memory slab, in place: Gale's mem_slab.rs, with the list of free blocks. h: how many blocks, a block's size, how many are out, the
 // block that is given next; l: a link for each block.
+#![tactic(auto)]
+
 ghost use Rattle.std.specs.Prelude.{◌≡◌, ◌&&◌, ◌-◌, ◌≤◌, ◌<◌, length, get_or, set};
 ghost use Rattle.store.specs.Store.{Filled};
 ghost use Rattle.mem_slab.specs.Slab.{is_out, new_links};

@@ -1,5 +1,7 @@
 // The message queue with its messages, in place: Gale's msgq.rs. h: how many messages it can hold, the slot of the first, how many it holds, a
 // message's size; b: the buffer, whose first bytes are the slots.
+#![tactic(auto)]
+
 ghost use Rattle.std.specs.Prelude.{◌≡◌, true, ◌+◌, ◌*◌, ◌<◌, ◌≤◌, length, take, drop};
 ghost use Rattle.std.proofs.Math.Seq.{paste};
 ghost use Rattle.ring_buf.specs.Ring.{wrap};

@@ -1,4 +1,6 @@
 // The mutex with its wait queue, in place: Gale's mutex.rs. h: whether it is owned, the owner, its locks, how many wait; e: the queue of those.
+#![tactic(auto)]
+
 ghost use Rattle.std.specs.Prelude.{◌≡◌, true, ◌<◌, get_or};
 ghost use Rattle.kind.specs.Object.{sized, sane};
 ghost use Rattle.mutex.specs.Mutex.{formed as formedMutex, mutex_kind};

@@ -1,5 +1,7 @@
 // The pipe with its bytes, in place: Gale's pipe.rs. h: size, the place of the first byte, how many bytes are held, flags; b: the buffer, whose
 // first bytes are the ring.
+#![tactic(auto)]
+
 ghost use Rattle.std.specs.Prelude.{◌≡◌, ◌-◌, ◌<◌, ◌≤◌, min, length, get_or};
 ghost use Rattle.store.specs.Store.{refuse, reply};
 ghost use Rattle.pipe.specs.Pipe.{read as doRead, read_all as doReadAll};

@@ -1,5 +1,7 @@
 // The ring buffer with its bytes, in place: Gale's ring_buf.rs. h: capacity, the place of the first byte, how many bytes are held; b: the
 // buffer, whose first bytes are the ring.
+#![tactic(auto)]
+
 ghost use Rattle.std.specs.Prelude.{◌≡◌, ◌+◌, ◌%◌, ◌<◌, ◌≤◌, min, length, take, drop};
 ghost use Rattle.std.proofs.Math.Seq.{paste};
 ghost use Rattle.ring_buf.specs.Ring.{wrap, turn};

@@ -1,4 +1,6 @@
 // The counting semaphore with its wait queue, in place: Gale's sem.rs. h: count, limit, how many wait; e: the queue of those.
+#![tactic(auto)]
+
 ghost use Rattle.std.specs.Prelude.{◌≡◌, true, ◌<◌, get_or};
 ghost use Rattle.kind.specs.Object.{sized, sane};
 ghost use Rattle.sem.specs.Sem.{formed as formedSem, sem_kind};

@@ -1,4 +1,6 @@
 // The stack, in place: Gale's stack.rs. h: how many words it can hold, how many it holds; w: the words, the last in behind the others.
+#![tactic(auto)]
+
 ghost use Rattle.std.specs.Prelude.{◌≡◌};
 ghost use Rattle.stack.specs.Stack.{push, pop};
 ghost use Rattle.stack.specs.Post.{PushDecided, PopDecided, Starts, Pushes, Pops, CountsFree, CountsUsed, GetsCapacity, SaysFull, SaysEmpty, place};

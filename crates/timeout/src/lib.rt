@@ -1,4 +1,6 @@
 // The timeout, in place: Gale's timeout.rs. h: its deadline, whether it is active (0: no), its clock.
+#![tactic(auto)]
+
 ghost use Rattle.std.specs.Prelude.{◌≡◌, []};
 ghost use Rattle.timeout.specs.Timeout.{right, until, add, abort, announce, remaining, expires};
 ghost use Rattle.timeout.specs.Post.{AddDecided, AbortDecided, AnnounceDecided, Starts, Adds, AddsAbsolute, AddsForever, AddsNoWait, Aborts, Announces, GetsRemaining, GetsExpiry, SaysActive, SaysForever, SaysNoWait, GetsNow, CalcsTimepoint, GetsTimepointTimeout, place};

@@ -1,4 +1,6 @@
 // The timer, in place: Gale's timer.rs. h: how often it expired since it was read, its period, whether it runs (0: no).
+#![tactic(auto)]
+
 ghost use Rattle.timer.specs.Timer.{start, stop, expire};
 ghost use Rattle.timer.specs.Post.{ExpireDecided, Starts, StartsRunning, Stops, Expires, GetsStatus, PeeksStatus, GetsPeriod, SaysRunning};
 

@@ -1,4 +1,6 @@
 // The C interface: include/waitqueue.h.
+#![tactic(auto)]
+
 pub mod condvars;
 pub mod events;
 pub mod futexes;
