@@ -120,6 +120,7 @@ module _ (K : Kind) (law : Lawful K) (v : ℕ → K.Wish) where
     still (x ∷ l) t = there s.queue t f
       where
         there : (m : List ℕ) → Sub (x ∷ l) m → K.formed s.num (any m) ≡ true → K.formed s.num true ≡ true
+        there [] u h = elim u [ ]
         there (y ∷ m) u h = h
 
     by_leaving : (i : ℕ) (b : Bool) → holds i s.queue ≡ b → Steady s.queue (left (queued s.num (remove i s.queue)) s) []

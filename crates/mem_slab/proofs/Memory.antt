@@ -105,11 +105,11 @@ is-fit h l k =
 -- a test of what is fit comes first
 module _ (h l : List ℕ) where
   -- by its answer
-  pub tested : (b : Bool) → b ≡ fit h l → not b ≡ false → Fit h l
-  tested b e k = is-fit h l (sym e ∙ not-false b k)
+  pub tested : (b : Bool) → b ≡ fit h l → b ≡ true → Fit h l
+  tested b e k = is-fit h l (sym e ∙ k)
 
-  pub tested_no : (b : Bool) → b ≡ fit h l → not b ≡ true → fit h l ≡ false
-  tested_no b e k = sym e ∙ not-true b k
+  pub tested_no : (b : Bool) → b ≡ fit h l → b ≡ false → fit h l ≡ false
+  tested_no b e k = sym e ∙ k
 
   unguarded : {A : Type 0} (x y : A) → fit h l ≡ false → cond (place.formed h l) (cond (leads (slab h l)) x y) y ≡ y
   unguarded x y k = go (place.formed h l) (leads (slab h l)) k

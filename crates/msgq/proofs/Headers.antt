@@ -13,11 +13,11 @@ use Rattle.ring_buf.specs.Bytes.{numbers}
 use Rattle.msgq.specs.Post.{room, sound, takes, sane}
 
 -- a test was passed, or failed
-pub was_true : {r t : Bool} → r ≡ t → not r ≡ false → t ≡ true
-was_true {r} e f = sym e ∙ not-false r f
+pub was_true : {r t : Bool} → r ≡ t → r ≡ true → t ≡ true
+was_true e f = sym e ∙ f
 
-pub was_false : {r t : Bool} → r ≡ t → not r ≡ true → t ≡ false
-was_false {r} e f = sym e ∙ not-true r f
+pub was_false : {r t : Bool} → r ≡ t → r ≡ false → t ≡ false
+was_false e f = sym e ∙ f
 
 pub by_both : {P : Type 0} (w : Bool) → (w ≡ true → P) → (w ≡ false → P) → P
 by_both true f g = f refl
@@ -106,8 +106,8 @@ module _ (h b : List ℕ) where
         room = roomy (get_or h 3 0) (get_or h 0 0) b y.1;
       }
 
-  pub passed : {r : Bool} → r ≡ sound h b → not r ≡ false → Sound
+  pub passed : {r : Bool} → r ≡ sound h b → r ≡ true → Sound
   passed e f = from-sound (was_true e f)
 
-  pub taken : (k : ℕ) {r : Bool} → r ≡ takes k h b → not r ≡ false → Sound × (k ≡ get_or h 3 0)
+  pub taken : (k : ℕ) {r : Bool} → r ≡ takes k h b → r ≡ true → Sound × (k ≡ get_or h 3 0)
   taken k e f = let x = both_true (sound h b) (eqb k (get_or h 3 0)) (was_true e f) in (from-sound x.0, eqb-true k (get_or h 3 0) x.1)

@@ -1,9 +1,9 @@
 -- A ring's header and buffer: what is tested, and what then holds. Assumes nothing.
 use mathlib.Core.Path.{◌≡◌, sym, ◌∙◌}
-use mathlib.Core.Bool.{Bool, true, false, not, cond}
+use mathlib.Core.Bool.{Bool, true, false, cond}
 use mathlib.Core.List.{List}
 use Prim.Native.Nat.{ℕ, ◌≤◌, ◌<◌}
-use borrow.Author.Tests.{lt-ltb, le-ltb, lt-leb, le-leb, leb-true, ltb-true, not-true, not-false}
+use borrow.Author.Tests.{lt-ltb, le-ltb, lt-leb, le-leb, leb-true, ltb-true}
 use lib.Dec.{ltb, leb}
 use lib.ListN.{length, get_or}
 use Rattle.store.proofs.Laws.{both_true}
@@ -45,8 +45,8 @@ module _ (h b : List ℕ) where
   is-sound s = is-room s.words s.start s.size ∙ le-leb (get_or h 0 0) (length b) s.room
 
   -- by the answer of `formed`
-  pub passed : {r : Bool} → r ≡ sound h b → not r ≡ false → Sound
-  passed {r} e f = from-sound (sym e ∙ not-false r f)
+  pub passed : {r : Bool} → r ≡ sound h b → r ≡ true → Sound
+  passed e f = from-sound (sym e ∙ f)
 
-  pub failed : {r : Bool} → r ≡ sound h b → not r ≡ true → sound h b ≡ false
-  failed {r} e f = sym e ∙ not-true r f
+  pub failed : {r : Bool} → r ≡ sound h b → r ≡ false → sound h b ≡ false
+  failed e f = sym e ∙ f

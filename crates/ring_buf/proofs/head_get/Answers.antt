@@ -1,0 +1,18 @@
+-- One law for each answer. Assumes nothing.
+use mathlib.Core.Path.{sym, ◌∙◌}
+use native.Mathlib.Omega.{arith}
+use Rattle.ring_buf.proofs.Headers.{passed, failed}
+use Rattle.seq.proofs.Integers.{answered64}
+use Rattle.store.proofs.Laws.{looks_bad}
+use Rattle.ring_buf.specs.Bytes.{bytes, head_of}
+use Rattle.ring_buf.proofs.Answers.{head-told}
+use Rattle.ring_buf.proofs.head_get.Goals as goal
+
+pub returns-then-not-formed : goal.returns-then-not-formed
+returns-then-not-formed c = let a = c.args in sym (looks_bad bytes a.h.now a.b.now head_of (failed a.h.now a.b.now c.formed.ensures c.if-not-formed.true))
+
+pub bounds-h-1 : goal.bounds-h-1
+bounds-h-1 c = let a = c.args in omega (arith, passed a.h.now a.b.now c.formed.ensures c.if-not-formed.false)
+
+pub returns : goal.returns
+returns c = let a = c.args in rw (answered64 {z = c.signed.result} c.signed.type_inv) (c.signed.ensures ∙ sym (head-told a.h.now a.b.now (passed a.h.now a.b.now c.formed.ensures c.if-not-formed.false)))
