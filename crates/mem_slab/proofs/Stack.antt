@@ -1,5 +1,5 @@
 -- The free blocks of a slab are a stack: what alloc and free keep. Assumes nothing.
-use mathlib.Core.Path.{◌≡◌, refl, sym, ap, ◌∙◌}
+use mathlib.Core.Path.{◌≡◌, refl, subst, sym, ap, ◌∙◌}
 use mathlib.Core.Bool.{Bool, true, false, cond, not, ◌&&◌, and-false}
 use mathlib.Core.List.{List, [], ◌∷◌}
 use Prim.Native.Nat.{ℕ, zero, suc, ◌+◌, ◌-◌, ◌≤◌, ◌<◌}
@@ -119,7 +119,8 @@ module _ (s : Slab) (g : Good s) where
     once-free i = rw (out-set s.blocks b (suc s.next) s.link here g.links i, not-zero s.next) (go (eqb b i) refl)
       where
         go : (c : Bool) → eqb b i ≡ c → count i (b ∷ free_list s) ≡ cond (ltb i s.blocks && not (cond (eqb b i) false (is_out s i))) 1 0
-        go true t = rw (t, ← eqb-true b i t, lt-ltb b s.blocks here) (ap suc absent)
+        go true t =
+            rw t (subst (λ (x : ℕ). suc (count x (free_list s)) ≡ cond (ltb x s.blocks && true) 1 0) (eqb-true b i t) (rw (lt-ltb b s.blocks here) (ap suc absent)))
         go false t = rw t (g.once i)
 
     pub good-free : Good (returned s b (s.used - 1))

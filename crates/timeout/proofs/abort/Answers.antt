@@ -10,6 +10,7 @@ use Rattle.timeout.specs.Post.{place}
 use Rattle.timeout.proofs.Memory.{short, sound-ahead}
 use Rattle.timeout.proofs.Answers.{abort-none, aborted}
 use Rattle.timeout.proofs.abort.Goals as goal
+use Rattle.timeout.proofs.abort.Goals.{then-h+else-not-formed, else-h}
 
 pub returns-then-h-lt3 : goal.returns-then-h-lt3
 returns-then-h-lt3 c = let a = c.args in did_bad place timeouts.abort a.h.now [] (short a.h.now (omega arith))
@@ -27,8 +28,8 @@ returns-then-not-formed c =
 pub returns : goal.returns
 returns c = let a = c.args in
     aborted a.h.now
-    (⊎_elim
-    (λ w. sym w.2.ensures ∙ not-false _ w.3.left)
-    (λ w. sound-ahead a.h.now (omega arith) (omega (arith, w.left, c.slice_known-4-1.given 0)) (omega (arith, w.left)))
-    c.if-h.branch)
+    (elim c.if-h.branch [
+      | then-h+else-not-formed w ↦ sym w.formed.ensures ∙ w.if-not-formed.false
+      | else-h w ↦ sound-ahead a.h.now (omega arith) (omega (arith, w.if-h.false, c.slice_known-4-1.given 0)) (omega (arith, w.if-h.false))
+    ])
     (omega arith)

@@ -11,6 +11,7 @@ use Rattle.timeout.specs.Post.{place}
 use Rattle.timeout.proofs.Memory.{short, sound-idle, sound-ahead}
 use Rattle.timeout.proofs.Answers.{announce-none, announce-idle, announce_early, announce-fires}
 use Rattle.timeout.proofs.announce.Goals as goal
+use Rattle.timeout.proofs.announce.Goals.{then-h-clock+else-not-formed, else-h-clock}
 
 pub returns-then-h-lt3 : goal.returns-then-h-lt3
 returns-then-h-lt3 c = let a = c.args in did_bad place (timeouts.announce a.ticks) a.h.now [] (short a.h.now (omega arith))
@@ -45,8 +46,8 @@ bounds-h-1-2 c = simp length-set (omega arith)
 pub returns : goal.returns
 returns c = let a = c.args in
     announce-fires a.h.now
-    (⊎_elim
-    (λ w. sym w.2.ensures ∙ not-false _ w.3.left)
-    (λ w. sound-ahead a.h.now (omega arith) (omega arith) (omega (arith, w.left)))
-    c.if-h-clock.branch)
+    (elim c.if-h-clock.branch [
+      | then-h-clock+else-not-formed w ↦ sym w.formed.ensures ∙ w.if-not-formed.false
+      | else-h-clock w ↦ sound-ahead a.h.now (omega arith) (omega (arith, w.if-h-clock.false, c.slice_known-4-1.given 0)) (omega (arith, w.if-h-clock.false))
+    ])
     a.ticks (omega arith) (omega arith) (omega arith)
