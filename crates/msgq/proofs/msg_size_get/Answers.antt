@@ -1,0 +1,19 @@
+-- One law for each answer. Assumes nothing.
+use mathlib.Core.Path.{sym, ◌∙◌}
+use native.Mathlib.Omega.{arith}
+use Rattle.seq.proofs.Integers.{answered64}
+use Rattle.store.proofs.Laws.{looks_bad}
+use Rattle.msgq.specs.Post.{messages}
+use Rattle.msgq.proofs.Answers.{looks_yes}
+use Rattle.msgq.proofs.Headers.{was_false, passed}
+use Rattle.msgq.specs.Msgq.{msg_size}
+use Rattle.msgq.proofs.msg_size_get.Goals as goal
+
+pub returns-then-not-formed : goal.returns-then-not-formed
+returns-then-not-formed c = let a = c.args in sym (looks_bad messages a.h.now a.b.now msg_size (was_false c.formed.ensures c.if-not-formed.true))
+
+pub bounds-h-3 : goal.bounds-h-3
+bounds-h-3 c = let a = c.args in let s = passed a.h.now a.b.now c.formed.ensures c.if-not-formed.false in omega arith
+
+pub returns : goal.returns
+returns c = let a = c.args in let s = passed a.h.now a.b.now c.formed.ensures c.if-not-formed.false in let u = c.signed in rw (answered64 {z = u.result} u.type_inv) (u.ensures ∙ looks_yes a.h.now a.b.now s msg_size)

@@ -1,0 +1,58 @@
+-- src/lib.rt:206:9
+-- src/lib.rt:207:9
+-- src/lib.rt:209:17
+-- src/lib.rt:211:9
+-- src/lib.rt:214:9
+-- src/lib.rt:217:9
+-- src/lib.rt:219:18
+-- src/lib.rt:219:8
+-- src/lib.rt:220:9
+-- src/lib.rt:201:1
+use mathlib.Core.Path.{sym, ◌∙◌}
+use native.Mathlib.Omega.{arith}
+use Rattle.store.proofs.Laws.{replies_bad}
+use Rattle.pipe.specs.Pipe.{read_all}
+use Rattle.pipe.specs.Post.{layout}
+use Rattle.pipe.proofs.Headers.{from-formed}
+use Rattle.pipe.proofs.Answers.{read-all-cancelled, read-all-nothing, read-all_broken, read-all_too_long, read-all-again}
+use Rattle.pipe.proofs.read_all_refusal.Goals as goal
+
+pub returns-then-not-formed : goal.returns-then-not-formed
+returns-then-not-formed c =
+    let a = c.args in
+    replies_bad layout (read_all a.n) a.h.now a.b.now (sym c.formed.ensures ∙ c.if-not-formed.true)
+
+pub bounds-h-3 : goal.bounds-h-3
+bounds-h-3 c =
+    let a = c.args in omega (arith, (from-formed a.h.now a.b.now (sym c.formed.ensures ∙ c.if-not-formed.false)))
+
+pub returns-then-flags-ge-FLAG_RESET : goal.returns-then-flags-ge-FLAG_RESET
+returns-then-flags-ge-FLAG_RESET c =
+    let a = c.args in
+    read-all-cancelled a.h.now a.b.now (from-formed a.h.now a.b.now (sym c.formed.ensures ∙ c.if-not-formed.false)) a.n (omega arith)
+
+pub returns-then-n-lt1 : goal.returns-then-n-lt1
+returns-then-n-lt1 c =
+    let a = c.args in
+    read-all-nothing a.h.now a.b.now (from-formed a.h.now a.b.now (sym c.formed.ensures ∙ c.if-not-formed.false)) a.n (omega arith) (omega arith)
+
+pub returns-then-flags-eq0 : goal.returns-then-flags-eq0
+returns-then-flags-eq0 c =
+    let a = c.args in
+    read-all_broken a.h.now a.b.now (from-formed a.h.now a.b.now (sym c.formed.ensures ∙ c.if-not-formed.false)) a.n (omega arith) (c.requires (omega arith) (omega arith)) (omega arith)
+
+pub bounds-h-0 : goal.bounds-h-0
+bounds-h-0 c =
+    let a = c.args in omega (arith, (from-formed a.h.now a.b.now (sym c.formed.ensures ∙ c.if-not-formed.false)))
+
+pub returns-then-wide-n : goal.returns-then-wide-n
+returns-then-wide-n c =
+    let a = c.args in
+    read-all_too_long a.h.now a.b.now (from-formed a.h.now a.b.now (sym c.formed.ensures ∙ c.if-not-formed.false)) a.n (omega arith) (c.requires (omega arith) (omega arith)) (omega arith)
+    (omega (arith, c.wide.ensures))
+
+pub returns : goal.returns
+returns c =
+    let a = c.args in
+    read-all-again a.h.now a.b.now (from-formed a.h.now a.b.now (sym c.formed.ensures ∙ c.if-not-formed.false)) a.n (omega arith) (c.requires (omega arith) (omega arith)) (omega arith)
+    (omega (arith, c.wide.ensures))

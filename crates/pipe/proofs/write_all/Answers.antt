@@ -1,0 +1,50 @@
+-- src/lib.rt:148:16
+-- src/lib.rt:148:9
+-- src/lib.rt:150:8
+-- src/lib.rt:151:20
+-- src/lib.rt:152:19
+-- src/lib.rt:154:43
+-- src/lib.rt:154:43
+-- src/lib.rt:154:33
+-- src/lib.rt:155:21
+-- src/lib.rt:155:21
+-- src/lib.rt:155:21
+-- src/lib.rt:155:21
+-- src/lib.rt:160:5
+-- src/lib.rt:160:5
+-- src/lib.rt:144:1
+-- src/lib.rt:144:1
+-- src/lib.rt:144:1
+use mathlib.Core.Logic.{⊎_elim}
+use native.Mathlib.Omega.{arith}
+use Rattle.seq.proofs.Integers.{answered, answered64, plain64}
+use Rattle.store.proofs.Laws.{did_bad}
+use Rattle.pipe.specs.Pipe.{write_all}
+use Rattle.pipe.specs.Post.{layout}
+use Rattle.pipe.proofs.Headers.{no_words}
+use Rattle.pipe.proofs.Answers.{wrote-all}
+use Rattle.pipe.proofs.write_all.Goals as goal
+
+pub returns-then-h-lt4 : goal.returns-then-h-lt4
+returns-then-h-lt4 c =
+    let a = c.args in
+    did_bad layout (write_all a.src.now) a.h.now a.b.now (no_words a.h.now a.b.now (omega arith))
+
+pub returns-then-src-wide : goal.returns-then-src-wide
+returns-then-src-wide c =
+    let a = c.args in
+    let u = c.put_n in
+    rw (answered64 {z = u.result} u.type_inv)
+    (wrote-all a.h.now a.b.now (omega arith) a.src.now (omega arith) (omega arith) (omega arith) (omega (arith, c.wide.ensures)) u.ensures)
+
+pub write_all_refusal-requires : goal.write_all_refusal-requires
+write_all_refusal-requires c =
+    λ e f. ⊎_elim (λ x. omega arith) (λ y. ⊎_elim (λ x. omega arith) (⊎_elim (λ x. omega arith) (λ x. omega (arith, x))) y) c.if-h-eq-FLAG_OPEN.branch
+
+pub overflow_cast-result-2 : goal.overflow_cast-result-2
+overflow_cast-result-2 c = let u = c.write_all_refusal in rw (answered {z = u.result} u.type_inv) (record { sfits = omega (arith, u.type_inv) })
+
+pub returns : goal.returns
+returns c =
+    let u = c.write_all_refusal in
+    rw (answered {z = u.result} u.type_inv, plain64 {z = u.result} (record { sfits = u.type_inv })) u.ensures
