@@ -1,11 +1,11 @@
 -- One law for each answer. Assumes nothing.
 use native.Mathlib.Omega.{arith}
 use mathlib.Core.Path.{sym, ◌∙◌}
-use mathlib.Core.Logic.{⊎_elim}
 use Rattle.seq.proofs.Order.{clash}
 use Rattle.msgq.proofs.Decisions.{decided, decided_no, get_insane, get-refuses, get-pends, get-wakes, get-reads}
 use Rattle.msgq.proofs.Headers.{is-sane, insane}
 use Rattle.msgq.proofs.get_decide.Goals as goal
+use Rattle.msgq.proofs.get_decide.Goals.{then-used_msgs-max_msgs+else-has_waiter+else-used_msgs-eq0, else-used_msgs-max_msgs}
 
 pub returns-then-max_msgs-read_idx : goal.returns-then-max_msgs-read_idx
 returns-then-max_msgs-read_idx c =
@@ -45,7 +45,10 @@ returns-then-max_msgs-used_msgs c =
     (insane a.read_idx a.used_msgs a.max_msgs a.has_waiter a.max_msgs (λ x f. omega (arith, x))))
 
 pub overflow_sub-new_used : goal.overflow_sub-new_used
-overflow_sub-new_used c = ⊎_elim (λ x. omega (arith, x.2.left)) (λ x. omega (arith, x.left)) c.if-used_msgs-max_msgs.branch
+overflow_sub-new_used c = (elim c.if-used_msgs-max_msgs.branch [
+  | then-used_msgs-max_msgs+else-has_waiter+else-used_msgs-eq0 w ↦ omega arith
+  | else-used_msgs-max_msgs w ↦ omega arith
+])
 
 pub returns-then-has_waiter-2 : goal.returns-then-has_waiter-2
 returns-then-has_waiter-2 c =
@@ -53,8 +56,14 @@ returns-then-has_waiter-2 c =
     decided _ a.new_read_idx.now a.new_used.now
     (get-wakes a.read_idx a.used_msgs a.max_msgs a.has_waiter a.is_no_wait
     (is-sane a.read_idx a.used_msgs a.max_msgs a.has_waiter a.max_msgs (record { idx = omega arith; used = omega arith })
-    (λ e. ⊎_elim (λ x. clash (sym e ∙ x.1.left)) (λ x. omega (arith, x.left)) c.if-used_msgs-max_msgs.branch)) c.next.result
-    (λ e. ⊎_elim (λ x. omega (arith, x.2.left)) (λ x. omega (arith, x.left)) c.if-used_msgs-max_msgs.branch) c.if-has_waiter-2.true
+    (λ e. (elim c.if-used_msgs-max_msgs.branch [
+      | then-used_msgs-max_msgs+else-has_waiter+else-used_msgs-eq0 w ↦ clash (sym e ∙ w.if-has_waiter.false)
+      | else-used_msgs-max_msgs w ↦ omega arith
+    ]))) c.next.result
+    (λ e. (elim c.if-used_msgs-max_msgs.branch [
+      | then-used_msgs-max_msgs+else-has_waiter+else-used_msgs-eq0 w ↦ omega arith
+      | else-used_msgs-max_msgs w ↦ omega arith
+    ])) c.if-has_waiter-2.true
     c.next.ensures)
 
 pub returns : goal.returns
@@ -64,5 +73,8 @@ returns c =
     (get-reads a.read_idx a.used_msgs a.max_msgs a.has_waiter a.is_no_wait
     (is-sane a.read_idx a.used_msgs a.max_msgs a.has_waiter a.max_msgs (record { idx = omega arith; used = omega arith })
     (λ e. clash (sym e ∙ c.if-has_waiter-2.false))) c.next.result
-    (λ e. ⊎_elim (λ x. omega (arith, x.2.left)) (λ x. omega (arith, x.left)) c.if-used_msgs-max_msgs.branch) c.if-has_waiter-2.false
+    (λ e. (elim c.if-used_msgs-max_msgs.branch [
+      | then-used_msgs-max_msgs+else-has_waiter+else-used_msgs-eq0 w ↦ omega arith
+      | else-used_msgs-max_msgs w ↦ omega arith
+    ])) c.if-has_waiter-2.false
     c.next.ensures)

@@ -1,5 +1,4 @@
 -- One law for each answer. Assumes nothing.
-use mathlib.Core.Logic.{⊎_elim}
 use native.Mathlib.Omega.{arith}
 use lib.ListN.{length}
 use Rattle.seq.proofs.Integers.{answered, answered64, plain64}
@@ -9,6 +8,7 @@ use Rattle.pipe.specs.Post.{layout}
 use Rattle.pipe.proofs.Headers.{no_words}
 use Rattle.pipe.proofs.Answers.{took}
 use Rattle.pipe.proofs.read.Goals as goal
+use Rattle.pipe.proofs.read.Goals.{then-h-lt-FLAG_RESET+then-h-gt0+else-out-gt0, then-h-lt-FLAG_RESET+else-h-gt0, else-h-lt-FLAG_RESET}
 
 pub returns-then-h-lt4 : goal.returns-then-h-lt4
 returns-then-h-lt4 c =
@@ -22,7 +22,11 @@ returns-then-out-gt0 c =
     rw (answered64 {z = u.result} u.type_inv) (took a.h.now a.b.now (omega arith) a.out.now (omega arith) (omega arith) (omega arith) u.ensures)
 
 pub read_refusal-requires : goal.read_refusal-requires
-read_refusal-requires c = λ e f. ⊎_elim (λ x. omega arith) (⊎_elim (λ x. omega arith) (λ x. omega arith)) c.if-h-lt-FLAG_RESET.branch
+read_refusal-requires c = λ e f. (elim c.if-h-lt-FLAG_RESET.branch [
+  | then-h-lt-FLAG_RESET+then-h-gt0+else-out-gt0 w ↦ omega arith
+  | then-h-lt-FLAG_RESET+else-h-gt0 w ↦ omega arith
+  | else-h-lt-FLAG_RESET w ↦ omega arith
+])
 
 pub overflow_cast-result-2 : goal.overflow_cast-result-2
 overflow_cast-result-2 c = let u = c.read_refusal in rw (answered {z = u.result} u.type_inv) (record { sfits = omega (arith, u.type_inv) })

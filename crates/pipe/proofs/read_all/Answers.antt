@@ -1,17 +1,3 @@
--- src/lib.rt:230:16
--- src/lib.rt:230:9
--- src/lib.rt:232:8
--- src/lib.rt:234:39
--- src/lib.rt:234:29
--- src/lib.rt:235:17
--- src/lib.rt:235:17
--- src/lib.rt:235:17
--- src/lib.rt:235:17
--- src/lib.rt:239:5
--- src/lib.rt:239:5
--- src/lib.rt:226:1
--- src/lib.rt:226:1
-use mathlib.Core.Logic.{⊎_elim}
 use native.Mathlib.Omega.{arith}
 use lib.ListN.{length}
 use Rattle.seq.proofs.Integers.{answered, answered64, plain64}
@@ -21,6 +7,7 @@ use Rattle.pipe.specs.Post.{layout}
 use Rattle.pipe.proofs.Headers.{no_words}
 use Rattle.pipe.proofs.Answers.{took-all}
 use Rattle.pipe.proofs.read_all.Goals as goal
+use Rattle.pipe.proofs.read_all.Goals.{then-h-lt-FLAG_RESET+then-out-gt0+else-out-wide, then-h-lt-FLAG_RESET+else-out-gt0, else-h-lt-FLAG_RESET}
 
 pub returns-then-h-lt4 : goal.returns-then-h-lt4
 returns-then-h-lt4 c =
@@ -37,7 +24,11 @@ returns-then-out-wide c =
 
 pub read_all_refusal-requires : goal.read_all_refusal-requires
 read_all_refusal-requires c =
-    λ e f. ⊎_elim (λ x. omega arith) (⊎_elim (λ x. omega arith) (λ x. omega (arith, x))) c.if-h-lt-FLAG_RESET.branch
+    λ e f. (elim c.if-h-lt-FLAG_RESET.branch [
+      | then-h-lt-FLAG_RESET+then-out-gt0+else-out-wide w ↦ omega (arith, w)
+      | then-h-lt-FLAG_RESET+else-out-gt0 w ↦ omega arith
+      | else-h-lt-FLAG_RESET w ↦ omega arith
+    ])
 
 pub overflow_cast-result-2 : goal.overflow_cast-result-2
 overflow_cast-result-2 c = let u = c.read_all_refusal in rw (answered {z = u.result} u.type_inv) (record { sfits = omega (arith, u.type_inv) })

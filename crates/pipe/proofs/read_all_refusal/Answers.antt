@@ -1,13 +1,3 @@
--- src/lib.rt:206:9
--- src/lib.rt:207:9
--- src/lib.rt:209:17
--- src/lib.rt:211:9
--- src/lib.rt:214:9
--- src/lib.rt:217:9
--- src/lib.rt:219:18
--- src/lib.rt:219:8
--- src/lib.rt:220:9
--- src/lib.rt:201:1
 use mathlib.Core.Path.{sym, ◌∙◌}
 use native.Mathlib.Omega.{arith}
 use Rattle.store.proofs.Laws.{replies_bad}

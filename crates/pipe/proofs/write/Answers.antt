@@ -1,5 +1,4 @@
 -- One law for each answer. Assumes nothing.
-use mathlib.Core.Logic.{⊎_elim}
 use native.Mathlib.Omega.{arith}
 use Rattle.seq.proofs.Integers.{answered, answered64, plain64}
 use Rattle.store.proofs.Laws.{did_bad}
@@ -8,6 +7,7 @@ use Rattle.pipe.specs.Post.{layout}
 use Rattle.pipe.proofs.Headers.{no_words}
 use Rattle.pipe.proofs.Answers.{wrote}
 use Rattle.pipe.proofs.write.Goals as goal
+use Rattle.pipe.proofs.write.Goals.{then-h-eq-FLAG_OPEN+then-h+else-src-gt0, then-h-eq-FLAG_OPEN+else-h, else-h-eq-FLAG_OPEN}
 
 pub returns-then-h-lt4 : goal.returns-then-h-lt4
 returns-then-h-lt4 c = did_bad layout (write c.args.src.now) c.args.h.now c.args.b.now (no_words c.args.h.now c.args.b.now (omega arith))
@@ -16,7 +16,11 @@ pub returns-then-src-gt0 : goal.returns-then-src-gt0
 returns-then-src-gt0 c = rw (answered64 {z = c.put_n.result} c.put_n.type_inv) (wrote c.args.h.now c.args.b.now (omega arith) c.args.src.now (omega arith) (omega arith) (omega arith) c.put_n.ensures)
 
 pub write_refusal-requires : goal.write_refusal-requires
-write_refusal-requires c = λ e f. ⊎_elim (λ x. omega arith) (⊎_elim (λ x. omega arith) (λ x. omega arith)) c.if-h-eq-FLAG_OPEN.branch
+write_refusal-requires c = λ e f. (elim c.if-h-eq-FLAG_OPEN.branch [
+  | then-h-eq-FLAG_OPEN+then-h+else-src-gt0 w ↦ omega arith
+  | then-h-eq-FLAG_OPEN+else-h w ↦ omega arith
+  | else-h-eq-FLAG_OPEN w ↦ omega arith
+])
 
 pub overflow_cast-result-2 : goal.overflow_cast-result-2
 overflow_cast-result-2 c = let u = c.write_refusal in rw (answered {z = u.result} u.type_inv) (record { sfits = omega (arith, u.type_inv) })

@@ -1,21 +1,3 @@
--- src/lib.rt:148:16
--- src/lib.rt:148:9
--- src/lib.rt:150:8
--- src/lib.rt:151:20
--- src/lib.rt:152:19
--- src/lib.rt:154:43
--- src/lib.rt:154:43
--- src/lib.rt:154:33
--- src/lib.rt:155:21
--- src/lib.rt:155:21
--- src/lib.rt:155:21
--- src/lib.rt:155:21
--- src/lib.rt:160:5
--- src/lib.rt:160:5
--- src/lib.rt:144:1
--- src/lib.rt:144:1
--- src/lib.rt:144:1
-use mathlib.Core.Logic.{⊎_elim}
 use native.Mathlib.Omega.{arith}
 use Rattle.seq.proofs.Integers.{answered, answered64, plain64}
 use Rattle.store.proofs.Laws.{did_bad}
@@ -24,6 +6,7 @@ use Rattle.pipe.specs.Post.{layout}
 use Rattle.pipe.proofs.Headers.{no_words}
 use Rattle.pipe.proofs.Answers.{wrote-all}
 use Rattle.pipe.proofs.write_all.Goals as goal
+use Rattle.pipe.proofs.write_all.Goals.{then-h-eq-FLAG_OPEN+then-used-h+then-src-gt0+else-src-wide, then-h-eq-FLAG_OPEN+then-used-h+else-src-gt0, then-h-eq-FLAG_OPEN+else-used-h, else-h-eq-FLAG_OPEN}
 
 pub returns-then-h-lt4 : goal.returns-then-h-lt4
 returns-then-h-lt4 c =
@@ -39,7 +22,12 @@ returns-then-src-wide c =
 
 pub write_all_refusal-requires : goal.write_all_refusal-requires
 write_all_refusal-requires c =
-    λ e f. ⊎_elim (λ x. omega arith) (λ y. ⊎_elim (λ x. omega arith) (⊎_elim (λ x. omega arith) (λ x. omega (arith, x))) y) c.if-h-eq-FLAG_OPEN.branch
+    λ e f. (elim c.if-h-eq-FLAG_OPEN.branch [
+      | then-h-eq-FLAG_OPEN+then-used-h+then-src-gt0+else-src-wide w ↦ omega (arith, w)
+      | then-h-eq-FLAG_OPEN+then-used-h+else-src-gt0 w ↦ omega arith
+      | then-h-eq-FLAG_OPEN+else-used-h w ↦ omega arith
+      | else-h-eq-FLAG_OPEN w ↦ omega arith
+    ])
 
 pub overflow_cast-result-2 : goal.overflow_cast-result-2
 overflow_cast-result-2 c = let u = c.write_all_refusal in rw (answered {z = u.result} u.type_inv) (record { sfits = omega (arith, u.type_inv) })

@@ -1,13 +1,3 @@
--- src/lib.rt:123:9
--- src/lib.rt:124:9
--- src/lib.rt:126:17
--- src/lib.rt:128:9
--- src/lib.rt:131:9
--- src/lib.rt:134:9
--- src/lib.rt:136:18
--- src/lib.rt:136:8
--- src/lib.rt:137:9
--- src/lib.rt:119:1
 use mathlib.Core.Path.{sym, ◌∙◌}
 use native.Mathlib.Omega.{arith}
 use Rattle.store.proofs.Laws.{did_bad}
