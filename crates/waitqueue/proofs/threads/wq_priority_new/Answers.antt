@@ -17,11 +17,11 @@ made v p e = rw (lt-ltb p.value 32 (priority-new v (Made p) (sym e)).0)
 pub returns-in-Made : goal.returns-in-Made
 returns-in-Made c =
     let v = c.args.value in
-    let p = c.p-1.given.0.0 in
-    let h : new_priority v ≡ Made p = sym c.new.ensures ∙ c.p-1.given.1 in
+    let p = c.in-Made.p in
+    let h : new_priority v ≡ Made p = sym c.new.ensures ∙ c.in-Made.is in
     rw (plain (record { sfits = c.get.type_inv }), h) (c.get.ensures ∙ made v p h)
 
 pub returns-in-Refused : goal.returns-in-Refused
 returns-in-Refused c =
-    let h = sym c.new.ensures ∙ c.code-1.given.1 in
+    let h = sym c.new.ensures ∙ c.in-Refused.is in
     rw h (search rules)

@@ -10,4 +10,4 @@ returns c =
     let e = rw (plain c.ranges.res) at c.wake.ensures in
     let h = rw e at c.stored.ensures in
     rw (plain (record { sfits = c.stored.type_inv }))
-    (each_wakes a.priority a.state.now _ a.return_value.now c.stored.result _ a.result (pos 0) h)
+    (each_wakes a.priority a.state.now _ a.return_value.now c.stored.result _ a.res (pos 0) h)
