@@ -1,5 +1,5 @@
 -- A field for each sentence of README.md and docs/THEOREMS.md.
-use Rattle.std.specs.Prelude.{◌≡◌, List, [], ◌∷◌, ℕ, ◌+◌, ◌≤◌, ℤ, negsuc, length, drop}
+use Rattle.std.specs.Prelude.{◌≡◌, List, [], ◌∷◌, ℕ, ◌+◌, ◌≤◌, ℤ, length, drop}
 use Rattle.seq.specs.Part.{part, At}
 use Rattle.store.specs.Store.{Reply, refuse, out, Refused, Signed, Place, reply, Did}
 use Rattle.kind.specs.Kind.{Kind, Lawful}

@@ -1,6 +1,6 @@
 -- No contract of a public function leaves anything open: of two outcomes from the same memory and the same numbers that both meet it, the answers
 -- are the same, and so is every word.
-use Rattle.std.specs.Prelude.{Bool, List, ℕ, ◌-◌, ℤ}
+use Rattle.std.specs.Prelude.{Bool, List, ℕ, ℤ}
 use Rattle.seq.specs.Only.{Only}
 use Rattle.mem_slab.specs.Post.{CountsUsed, CountsFree, CountsBlocks, GetsBlockSize, SaysFull, SaysEmpty, Allocs, Frees, Starts, AllocDecided, FreeDecided}
 

@@ -8,7 +8,7 @@ use Rattle.seq.specs.List.{All}
 use Rattle.seq.proofs.Sub.{sub_drop, sub_holds}
 use Rattle.ring_buf.specs.Ring.{Ring, wrap, append, lead, leave}
 use Rattle.ring_buf.proofs.Rings.{wrap-below}
-use Rattle.msgq.specs.Msgq.{Msgq, having, max, used, read_idx}
+use Rattle.msgq.specs.Msgq.{Msgq, having, used, read_idx}
 use Rattle.msgq.specs.History.{Good}
 
 pub all_append : {A : Type 0} (P : A → Type 0) (l k : List A) → All P l → All P k → All P (l ++ k)

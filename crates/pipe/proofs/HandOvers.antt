@@ -9,8 +9,8 @@ use lib.IntN.{pos}
 use lib.ListN.{length, take, length-append, length-take, length-drop, drop_of_length-le}
 use lib.Seq.{take_all, take-append-le}
 use Rattle.store.specs.Store.{accept, out}
-use Rattle.pipe.specs.Pipe.{Pipe, Verdict, move, writes, more, less, goes_in, comes_out, to_write, to_read, write, read}
-use Rattle.pipe.specs.Post.{wakes, decided}
+use Rattle.pipe.specs.Pipe.{Pipe, Verdict, move, writes, more, less, goes_in, comes_out, to_write, to_read, write}
+use Rattle.pipe.specs.Post.{wakes}
 use Rattle.pipe.specs.HandOver.{used, flags, HandsOver, Behind, MakesRoom}
 use Rattle.pipe.proofs.Verdicts.{is-proper, write-is, read_is}
 use Rattle.pipe.proofs.Agreements.{flag_open, flag-resetting, flag-few, fits, write_same, read_same}

@@ -22,7 +22,7 @@ use Rattle.ring_buf.specs.Upstream.{RingBuf, shown, Inv, WrappingSub, ClaimDecid
 use Rattle.ring_buf.proofs.Rings.{by-lt, wrap-low, wrap-high, length-turn}
 use Rattle.ring_buf.proofs.Counting.{offset-none, offset-is, claimed-none, claimed-is}
 use Rattle.ring_buf.proofs.Calls.{mk, Fits, acts_fit, new-fits, which}
-use Rattle.ring_buf.proofs.Upstream.{consistent, inv}
+use Rattle.ring_buf.proofs.Upstream.{inv}
 
 -- ---- the decide functions
 

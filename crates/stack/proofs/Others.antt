@@ -19,8 +19,6 @@ use Rattle.stack.specs.Stack.{Stack, used, free, size, full, empty, right, may}
 use Rattle.stack.specs.Post.{PushDecided, PopDecided, Starts, CountsFree, CountsUsed, GetsCapacity, SaysFull, SaysEmpty, place}
 use Rattle.stack.specs.History.{depth}
 use Rattle.stack.specs.Upstream.{Inv, Housed, NumFree, NumUsed, IsFull, IsEmpty, Capacity, Init, PushDecide, PopDecide}
-use Rattle.stack.proofs.Memory.{formed}
-use Rattle.stack.proofs.Calls.{stores, takes}
 use Rattle.stack.proofs.Numbers.{push-wakes, push-full, push-stores, pop-takes, pop-busy, pop-pends}
 use Rattle.stack.proofs.Upstream.{inv-formed}
 

@@ -10,7 +10,7 @@ use Rattle.seq.proofs.Back.{back-length}
 use Rattle.thread.specs.Code.{enomem, ebusy, einval}
 use Rattle.store.specs.Store.{Reply, answer, left, out, first}
 use Rattle.store.proofs.Laws.{kept_bad, kept_no, handed_bad, handed-is}
-use Rattle.stack.specs.Stack.{Stack, push, pop, full}
+use Rattle.stack.specs.Stack.{Stack, push, pop}
 use Rattle.stack.specs.Post.{Pushes, Pops, place}
 use Rattle.stack.specs.History.{Call, pushing, popping, does, depth}
 use Rattle.stack.specs.Upstream.{Inv, Housed, Push, Pop, Stored, Taken}

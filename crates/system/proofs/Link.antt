@@ -8,9 +8,8 @@ use lib.Dec.{leb}
 use lib.IntN.{ℤ, pos, negsuc}
 use lib.ListN.{length, get_or, take, drop, length-map}
 use lib.Seq.{take_at}
-use borrow.Author.Tests.{eq-eqb, ne_eqb, le-leb, leb-true}
+use borrow.Author.Tests.{eq-eqb, ne_eqb, leb-true}
 use Rattle.seq.proofs.Order.{clash}
-use Rattle.seq.proofs.Back.{back-length}
 use Rattle.store.specs.Store as store
 use Rattle.store.specs.Store.{Reply, refuse, accept, answer, out, reply, Did, first, Signed}
 use Rattle.store.proofs.Laws.{replies, carry-answer, carry-out, kept, became_so}

@@ -2,7 +2,6 @@
 use mathlib.Core.Path.{◌≡◌, refl}
 use mathlib.Core.Bool.{Bool, true, false, cond}
 use mathlib.Core.List.{[]}
-use Prim.Native.Nat.{ℕ}
 use lib.Dec.{ltb}
 use Rattle.thread.specs.Code.{ok, einval}
 use Rattle.thread.specs.Priority.{valid}

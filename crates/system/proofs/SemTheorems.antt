@@ -13,7 +13,7 @@ use Rattle.thread.specs.Code.{ok}
 use Rattle.wait_queue.specs.Queue.{max_waiters}
 use Rattle.kind.specs.Kind.{Kind, Lawful}
 use Rattle.kind.proofs.Picks.{none_any}
-use Rattle.sem.specs.Sem.{Sem, Call, take, try_take, formed, sem_kind}
+use Rattle.sem.specs.Sem.{Sem, Call, take, try_take, sem_kind}
 use Rattle.sem.proofs.Law as law
 use Rattle.system.specs.System.{object, Sys, Op, invoke, done, Reply, step, after}
 use Rattle.system.specs.Part.{Part}

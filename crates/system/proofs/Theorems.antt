@@ -6,7 +6,7 @@ use Rattle.system.specs.Sum.{first, later}
 use Rattle.system.specs.Rules.{Fine, Start}
 use Rattle.system.specs.Run.{Run, run}
 use Rattle.system.specs.Laws.{Laws}
-use Rattle.system.specs.Rtos.{kinds, mutexes, members, rtos, sem_part, mutex_part}
+use Rattle.system.specs.Rtos.{kinds, members, rtos, sem_part, mutex_part}
 use Rattle.system.specs.Theorems.{Theorems, Whole}
 use Rattle.system.proofs.Steps.{always}
 use Rattle.system.proofs.Orders.{ordered}

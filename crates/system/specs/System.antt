@@ -1,5 +1,5 @@
 -- Threads and objects of one kind, which may be a sum: one step for every operation, with its answer.
-use Rattle.std.specs.Prelude.{Bool, true, false, cond, List, [], ◌∷◌, ◌++◌, map, ℕ, eqb, ltb, ℤ, pos, negsuc}
+use Rattle.std.specs.Prelude.{Bool, true, false, cond, List, [], ◌++◌, map, ℕ, eqb, ltb, ℤ, pos, negsuc}
 use Rattle.thread.specs.Code.{ok, eagain, einval}
 use Rattle.thread.specs.Priority.{valid}
 use Rattle.wait_queue.specs.Queue.{ident, holds, without}

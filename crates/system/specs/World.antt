@@ -3,8 +3,8 @@ use Rattle.std.specs.Prelude.{◌≡◌, List, [], ◌∷◌, map, ℕ}
 use Rattle.seq.specs.List.{All}
 use Rattle.kind.specs.Kind.{Kind}
 use Rattle.kind.specs.Object.{Layout}
-use Rattle.system.specs.System.{State, ready, object, Woken, Op, invoke, both, dispatch, yield, expire, spawn, create}
-use Rattle.system.specs.System.{Answer, reply, Reply, after}
+use Rattle.system.specs.System.{State, ready, Woken, Op, invoke, both, dispatch, yield, expire, spawn, create}
+use Rattle.system.specs.System.{Answer, reply, Reply}
 use Rattle.system.specs.Part.{Part}
 use Rattle.system.specs.Functions.{Memory, Use, Function, Double, told}
 use Rattle.system.specs.Link.{read, Handed, fate}

@@ -4,7 +4,7 @@ use mathlib.Core.List.{List, [], ◌∷◌}
 use native.Mathlib.Omega.{arith}
 use lib.IntN.{ℤ, pos}
 use Rattle.thread.specs.Code.{ok, einval, eoverflow}
-use Rattle.store.specs.Store.{accept, refuse, answer, looks}
+use Rattle.store.specs.Store.{accept, refuse, looks}
 use Rattle.store.specs.History.{Step, Made, begun, made}
 use Rattle.timer.specs.Timer.{timer, expire_decide, expire, count, ticks, runs}
 use Rattle.timer.specs.Post.{place}

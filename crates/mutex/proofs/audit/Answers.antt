@@ -1,7 +1,6 @@
 -- One law for each answer. Assumes nothing.
 use mathlib.Core.Path.{sym, ◌∙◌}
 use native.Mathlib.Omega.{arith}
-use borrow.Author.Tests.{not-true, not-false}
 use Rattle.mutex.proofs.Answers.{words, audit_no, audit_bad, audit-owner, free-apart, owner-apart}
 use Rattle.mutex.proofs.audit.Goals as goal
 

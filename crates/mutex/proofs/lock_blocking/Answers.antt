@@ -1,7 +1,6 @@
 -- One law for each answer. Assumes nothing.
 use mathlib.Core.Path.{sym, ◌∙◌}
 use native.Mathlib.Omega.{arith}
-use borrow.Author.Tests.{not-false}
 use Rattle.seq.proofs.Integers.{answered}
 use Rattle.mutex.proofs.Answers.{its_words, small_no, lock_no, ownerless_no, lock-waits}
 use Rattle.mutex.proofs.Written.{unwritten, joins}

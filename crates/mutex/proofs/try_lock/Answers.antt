@@ -1,7 +1,7 @@
 -- One law for each answer. Assumes nothing.
 use mathlib.Core.Path.{sym, ◌∙◌}
 use native.Mathlib.Omega.{arith}
-use borrow.Author.Tests.{not-false, ltb-false}
+use borrow.Author.Tests.{ltb-false}
 use lib.ListN.{get_or, length-set}
 use Rattle.mutex.proofs.Answers.{words, free-flag, tried_no, tried-free, tried_other, tried-over, tried-again}
 use Rattle.mutex.proofs.Written.{unwritten, takes, counts}

@@ -1,7 +1,6 @@
 -- One law for each answer. Assumes nothing.
 use mathlib.Core.Path.{sym, ◌∙◌}
 use native.Mathlib.Omega.{arith}
-use borrow.Author.Tests.{not-false}
 use Rattle.seq.proofs.Integers.{answered}
 use Rattle.mutex.proofs.Answers.{its_words, small_no, ownerless_no, crowded_no, held_yes, unlock_no, unlock_lockless, unlock-other, unlock-nested, unlock-passes}
 use Rattle.mutex.proofs.Written.{unwritten, counts}

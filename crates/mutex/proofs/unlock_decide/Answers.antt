@@ -1,6 +1,5 @@
 -- One law for each answer. Assumes nothing.
 use native.Mathlib.Omega.{arith}
-use borrow.Author.Tests.{not-true, not-false}
 use Rattle.mutex.proofs.Answers.{unlock_null, unlock-empty, unlock-not, unlock-more, unlock-one}
 use Rattle.mutex.proofs.unlock_decide.Goals as goal
 

@@ -1,7 +1,7 @@
 -- The loop: as many as it has run are copied. Assumes nothing.
 use mathlib.Core.Path.{◌≡◌}
 use mathlib.Core.List.{◌++◌}
-use Prim.Native.Nat.{◌-◌, ◌+◌, ◌<◌}
+use Prim.Native.Nat.{◌-◌, ◌<◌}
 use lib.ListN.{length, take, drop}
 use Rattle.ring_buf.proofs.blocks.Given as goal
 

@@ -2,7 +2,6 @@
 use mathlib.Core.Path.{sym, ◌∙◌}
 use native.Mathlib.Omega.{arith}
 use lib.ListN.{length-set}
-use borrow.Author.Tests.{not-false}
 use Rattle.seq.proofs.Integers.{answered}
 use Rattle.sem.proofs.Answers.{words, len-kept, cleared_no, cleared-short, cleared-all}
 use Rattle.sem.proofs.reset.Goals as goal

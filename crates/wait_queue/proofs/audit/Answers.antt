@@ -1,6 +1,4 @@
 use mathlib.Core.Path.{refl, sym, ◌∙◌}
-use mathlib.Core.Bool.{true}
-use Prim.Native.Nat.{◌-◌}
 use native.Mathlib.Omega.{arith}
 use Rattle.wait_queue.proofs.Memory.{is-roomy}
 use Rattle.wait_queue.proofs.Audits.{audit-on, audit_misfit, audit_fails, audit-passes}

@@ -1,4 +1,3 @@
-use Prim.Native.Nat.{◌-◌}
 use native.Mathlib.Omega.{arith}
 use Rattle.wait_queue.proofs.Loops.{hand_start, hand_on, hand_end, hand_none, hand_one}
 use Rattle.wait_queue.proofs.hand_out.Goals as goal

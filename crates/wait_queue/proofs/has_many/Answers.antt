@@ -1,5 +1,4 @@
 use mathlib.Core.Path.{◌≡◌, refl, ◌∙◌}
-use Prim.Native.Nat.{◌-◌}
 use native.Mathlib.Omega.{arith}
 use Rattle.wait_queue.proofs.Loops.{has_hit, has_miss}
 use Rattle.wait_queue.proofs.has_many.Goals as goal

@@ -1,6 +1,5 @@
 use mathlib.Core.Path.{◌≡◌}
-use mathlib.Core.Bool.{false}
-use Prim.Native.Nat.{◌-◌, ◌+◌}
+use Prim.Native.Nat.{◌+◌}
 use native.Mathlib.Omega.{arith}
 use Rattle.wait_queue.proofs.Loops.{absent_none, absent-next, hit_at}
 use Rattle.wait_queue.proofs.has_three.Goals as goal

@@ -1,4 +1,3 @@
-use Prim.Native.Nat.{◌-◌}
 use native.Mathlib.Omega.{arith}
 use Rattle.wait_queue.proofs.Loops.{pack-start, pack-drop, pack-keep, pack-end}
 use Rattle.wait_queue.proofs.pack.Goals as goal

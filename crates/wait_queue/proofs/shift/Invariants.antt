@@ -1,5 +1,4 @@
 -- What was passed stands one up, and what stopped it is of lower priority. Assumes nothing.
-use Prim.Native.Nat.{◌-◌}
 use Rattle.wait_queue.specs.Parts.{Shifted}
 use Rattle.wait_queue.proofs.shift.Given as goal
 

@@ -1,5 +1,4 @@
 -- What was passed stands one up, two at a time. Assumes nothing.
-use Prim.Native.Nat.{◌-◌}
 use Rattle.wait_queue.specs.Parts.{Shifted}
 use Rattle.wait_queue.proofs.shift_pairs.Given as goal
 
