@@ -9,4 +9,4 @@ pub returns-then-h-lt1 : goal.returns-then-h-lt1
 returns-then-h-lt1 c = let a = c.args in did_short a.h.now (event.clear a.clear_events) (omega arith)
 
 pub returns : goal.returns
-returns c = let a = c.args in let u = c.signed in rw (answered64 {z = u.result} u.type_inv) (did_clear a.h.now (omega arith) (omega (arith, c.slice_known-2-1.given 0)) a.clear_events (omega arith) u.ensures)
+returns c = let a = c.args in let u = c.signed in rw (answered64 {z = u.result} u.type_inv) (did_clear a.h.now (omega arith) (omega arith) a.clear_events (omega arith) u.ensures)

@@ -23,7 +23,7 @@ pub bounds-h-3 : goal.bounds-h-3
 bounds-h-3 c = let a = c.args in let f = tested a.h.now a.l.now _ c.formed.ensures c.if-not-formed.false in omega arith
 
 pub overflow_add-h : goal.overflow_add-h
-overflow_add-h c = let a = c.args in let f = tested a.h.now a.l.now _ c.formed.ensures c.if-not-formed.false in omega (arith, c.slice_known-5-1.given 0)
+overflow_add-h c = let a = c.args in let f = tested a.h.now a.l.now _ c.formed.ensures c.if-not-formed.false in omega arith
 
 pub bounds-h-2-2 : goal.bounds-h-2-2
 bounds-h-2-2 c = let a = c.args in let f = tested a.h.now a.l.now _ c.formed.ensures c.if-not-formed.false in omega arith

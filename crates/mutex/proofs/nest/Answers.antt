@@ -30,10 +30,10 @@ pub returns-then-depth : goal.returns-then-depth
 returns-then-depth c = let a = c.args in let g = c.requires in (lock-full a.h.now a.e.now (held_yes a.h.now a.e.now g.0 g.1 g.2 (sym c.fits.ensures ∙ c.if-not-fits.false)) a.id a.priority a.state 0 (right-caller a.priority a.state (omega arith) (omega arith)) g.3 (omega arith), unwritten a.h.now)
 
 pub overflow_add-h : goal.overflow_add-h
-overflow_add-h c = omega (arith, c.slice_known-2-1.given 2)
+overflow_add-h c = omega arith
 
 pub bounds-h-2-2 : goal.bounds-h-2-2
 bounds-h-2-2 c = let a = c.args in let g = c.requires in omega (arith, its_words a.h.now a.e.now g.0)
 
 pub returns : goal.returns
-returns c = let a = c.args in let g = c.requires in (lock-again a.h.now a.e.now (held_yes a.h.now a.e.now g.0 g.1 g.2 (sym c.fits.ensures ∙ c.if-not-fits.false)) a.id a.priority a.state 0 (right-caller a.priority a.state (omega arith) (omega arith)) g.3 g.2 (omega (arith, c.slice_known-2-1.given 2)), counts a.h.now (its_words a.h.now a.e.now g.0) _)
+returns c = let a = c.args in let g = c.requires in (lock-again a.h.now a.e.now (held_yes a.h.now a.e.now g.0 g.1 g.2 (sym c.fits.ensures ∙ c.if-not-fits.false)) a.id a.priority a.state 0 (right-caller a.priority a.state (omega arith) (omega arith)) g.3 g.2 (omega arith), counts a.h.now (its_words a.h.now a.e.now g.0) _)

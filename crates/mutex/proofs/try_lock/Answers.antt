@@ -57,7 +57,7 @@ returns-then-count c = let a = c.args in (
 )
 
 pub overflow_add-h : goal.overflow_add-h
-overflow_add-h c = omega (arith, c.slice_known-2-1.given 2)
+overflow_add-h c = omega arith
 
 pub bounds-h-2-2 : goal.bounds-h-2-2
 bounds-h-2-2 c = let a = c.args in omega (
@@ -68,7 +68,7 @@ bounds-h-2-2 c = let a = c.args in omega (
 pub returns : goal.returns
 returns c = let a = c.args in (
   tried-again a.h.now a.e.now (sym c.formed.ensures ∙ c.if-not-formed.false) a.id (omega arith) (omega arith)
-      (omega (arith, c.slice_known-2-1.given 2)),
+      (omega arith),
   counts a.h.now
       (words a.h.now a.e.now (sym c.formed.ensures ∙ c.if-not-formed.false)) _,
 )

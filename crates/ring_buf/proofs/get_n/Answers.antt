@@ -34,16 +34,16 @@ drain-requires c =
     (omega (arith, s, c.wide-c.ensures, c.wide-t.ensures), (omega (arith, s, l, c.wide-c.ensures, c.wide-n.ensures, c.least-k.ensures), omega (arith, s, c.wide-c.ensures)))
 
 pub overflow_add-t : goal.overflow_add-t
-overflow_add-t c = omega (arith, c.wide-t.ensures, c.wide-n.ensures, c.least-k.ensures, c.slice_known-3-1.given 1, c.slice_known-3-1.given 2)
+overflow_add-t c = omega (arith, c.wide-t.ensures, c.wide-n.ensures, c.least-k.ensures, c.type_inv.h 1, c.type_inv.h 2)
 
 pub overflow_cast-h : goal.overflow_cast-h
-overflow_cast-h c = let a = c.args in omega (arith, c.place.ensures, wrap-below (c.wide-t.result + c.least-k.result) c.wide-c.result (omega (arith, passed a.h.now a.b.now c.formed.ensures c.if-not-formed.false, c.wide-c.ensures, c.wide-t.ensures, c.wide-n.ensures, c.least-k.ensures)), c.wide-c.ensures, c.slice_known-3-1.given 0)
+overflow_cast-h c = let a = c.args in omega (arith, c.place.ensures, wrap-below (c.wide-t.result + c.least-k.result) c.wide-c.result (omega (arith, passed a.h.now a.b.now c.formed.ensures c.if-not-formed.false, c.wide-c.ensures, c.wide-t.ensures, c.wide-n.ensures, c.least-k.ensures)), c.wide-c.ensures)
 
 pub bounds-h-1-2 : goal.bounds-h-1-2
 bounds-h-1-2 c = let a = c.args in omega (arith, passed a.h.now a.b.now c.formed.ensures c.if-not-formed.false)
 
 pub overflow_cast-h-2 : goal.overflow_cast-h-2
-overflow_cast-h-2 c = omega (arith, c.wide-n.ensures, c.slice_known-3-1.given 2)
+overflow_cast-h-2 c = omega (arith, c.wide-n.ensures)
 
 pub bounds-h-2-2 : goal.bounds-h-2-2
 bounds-h-2-2 c = let a = c.args in simp length-set (omega (arith, passed a.h.now a.b.now c.formed.ensures c.if-not-formed.false))
@@ -52,5 +52,5 @@ pub returns : goal.returns
 returns c =
     let a = c.args in
     let s = passed a.h.now a.b.now c.formed.ensures c.if-not-formed.false in
-    let k = natural64 c.least-k.result (omega (arith, c.least-k.ensures, c.wide-n.ensures, c.slice_known-3-1.given 2)) in
+    let k = natural64 c.least-k.result (omega (arith, c.least-k.ensures, c.wide-n.ensures)) in
     rw k (get_n-done a.h.now a.b.now s c.wide-c.result c.wide-t.result c.wide-n.result a.out.now _ c.drain.new.out c.least-k.result c.place.result c.wide-c.ensures c.wide-t.ensures c.wide-n.ensures c.least-k.ensures c.place.ensures c.drain.ensures refl)

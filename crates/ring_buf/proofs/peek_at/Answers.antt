@@ -24,7 +24,7 @@ pub bounds-h-1 : goal.bounds-h-1
 bounds-h-1 c = let a = c.args in omega (arith, passed a.h.now a.b.now c.formed.ensures c.if-not-formed.false)
 
 pub overflow_add-wide : goal.overflow_add-wide
-overflow_add-wide c = omega (arith, c.wide.ensures, c.wide-2.ensures, c.shared_slice_known-3-1.given 1, c.shared_slice_known-3-1.given 2)
+overflow_add-wide c = omega (arith, c.wide.ensures, c.wide-2.ensures, c.type_inv.h 1, c.type_inv.h 2)
 
 pub bounds-h-0 : goal.bounds-h-0
 bounds-h-0 c = let a = c.args in omega (arith, passed a.h.now a.b.now c.formed.ensures c.if-not-formed.false)

@@ -27,7 +27,7 @@ pub bounds-h-1 : goal.bounds-h-1
 bounds-h-1 c = let a = c.args in omega (arith, passed a.h.now a.b.now c.formed.ensures c.if-not-formed.false)
 
 pub overflow_add-wide : goal.overflow_add-wide
-overflow_add-wide c = omega (arith, c.wide.ensures, c.wide-2.ensures, c.slice_known-3-1.given 1, c.slice_known-3-1.given 2)
+overflow_add-wide c = omega (arith, c.wide.ensures, c.wide-2.ensures, c.type_inv.h 1, c.type_inv.h 2)
 
 pub bounds-b-a : goal.bounds-b-a
 bounds-b-a c =
@@ -38,7 +38,7 @@ bounds-b-a c =
     omega (arith, e, wrap-below (get_or h 1 0 + get_or h 2 0) (get_or h 0 0) (omega (arith, s)), s)
 
 pub overflow_add-h : goal.overflow_add-h
-overflow_add-h c = let a = c.args in omega (arith, passed a.h.now a.b.now c.formed.ensures c.if-not-formed.false, c.slice_known-3-1.given 0)
+overflow_add-h c = let a = c.args in omega (arith, passed a.h.now a.b.now c.formed.ensures c.if-not-formed.false)
 
 pub bounds-h-2-2 : goal.bounds-h-2-2
 bounds-h-2-2 c = let a = c.args in omega (arith, passed a.h.now a.b.now c.formed.ensures c.if-not-formed.false)

@@ -34,7 +34,7 @@ fill-requires c =
     (omega (arith, s, c.wide-c.ensures, c.wide.ensures), (omega (arith, s, l, c.wide-c.ensures, c.wide-n.ensures, c.least-k.ensures), omega (arith, s, c.wide-c.ensures)))
 
 pub overflow_cast-h : goal.overflow_cast-h
-overflow_cast-h c = let a = c.args in omega (arith, passed a.h.now a.b.now c.formed.ensures c.if-not-formed.false, c.wide-c.ensures, c.wide-n.ensures, c.least-k.ensures, c.slice_known-3-1.given 0)
+overflow_cast-h c = let a = c.args in omega (arith, passed a.h.now a.b.now c.formed.ensures c.if-not-formed.false, c.wide-c.ensures, c.wide-n.ensures, c.least-k.ensures)
 
 pub bounds-h-2-2 : goal.bounds-h-2-2
 bounds-h-2-2 c = let a = c.args in omega (arith, passed a.h.now a.b.now c.formed.ensures c.if-not-formed.false)
@@ -43,5 +43,5 @@ pub returns : goal.returns
 returns c =
     let a = c.args in
     let s = passed a.h.now a.b.now c.formed.ensures c.if-not-formed.false in
-    let k = natural64 c.least-k.result (omega (arith, c.least-k.ensures, c.wide-c.ensures, c.slice_known-3-1.given 0)) in
+    let k = natural64 c.least-k.result (omega (arith, c.least-k.ensures, c.wide-c.ensures)) in
     rw k (put_n-done a.h.now a.b.now s c.wide-c.result c.wide.result c.wide-n.result c.least-k.result a.src.now c.fill.new.b c.wide-c.ensures c.wide.ensures c.wide-n.ensures c.least-k.ensures c.fill.auto.b c.fill.ensures.b_after c.fill.ensures.b_unchanged)

@@ -23,7 +23,7 @@ pub bounds-h-2 : goal.bounds-h-2
 bounds-h-2 c = let a = c.args in omega (arith, passed a.h.now a.b.now c.formed.ensures c.if-not-formed.false)
 
 pub overflow_add-wide : goal.overflow_add-wide
-overflow_add-wide c = omega (arith, c.wide.ensures, c.wide-2.ensures, c.shared_slice_known-3-1.given 1, c.shared_slice_known-3-1.given 2)
+overflow_add-wide c = omega (arith, c.wide.ensures, c.wide-2.ensures, c.type_inv.h 1, c.type_inv.h 2)
 
 pub bounds-h-0 : goal.bounds-h-0
 bounds-h-0 c = let a = c.args in omega (arith, passed a.h.now a.b.now c.formed.ensures c.if-not-formed.false)
@@ -34,7 +34,7 @@ overflow_cast-result-2 c =
     let h = a.h.now in
     let s = passed a.h.now a.b.now c.formed.ensures c.if-not-formed.false in
     let e : c.place.result ≡ wrap (get_or h 1 0 + get_or h 2 0) (get_or h 0 0) = cc in
-    omega (arith, e, wrap-below (get_or h 1 0 + get_or h 2 0) (get_or h 0 0) (omega (arith, s)), c.shared_slice_known-3-1.given 0)
+    omega (arith, e, wrap-below (get_or h 1 0 + get_or h 2 0) (get_or h 0 0) (omega (arith, s)), c.type_inv.h 0)
 
 pub returns : goal.returns
 returns c =
@@ -42,5 +42,5 @@ returns c =
     let h = a.h.now in
     let s = passed a.h.now a.b.now c.formed.ensures c.if-not-formed.false in
     let e : c.place.result ≡ wrap (get_or h 1 0 + get_or h 2 0) (get_or h 0 0) = cc in
-    let k : c.place.result < 9223372036854775808 = omega (arith, e, wrap-below (get_or h 1 0 + get_or h 2 0) (get_or h 0 0) (omega (arith, s)), c.shared_slice_known-3-1.given 0) in
+    let k : c.place.result < 9223372036854775808 = omega (arith, e, wrap-below (get_or h 1 0 + get_or h 2 0) (get_or h 0 0) (omega (arith, s)), c.type_inv.h 0) in
     natural64 c.place.result k ∙ ap pos e ∙ sym (tail-told h a.b.now s)

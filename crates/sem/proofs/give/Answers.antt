@@ -29,7 +29,7 @@ pub bounds-h-1 : goal.bounds-h-1
 bounds-h-1 c = let a = c.args in omega (arith, its_words a.h.now a.e.now (sym c.housed.ensures ∙ c.if-not-housed.false))
 
 pub overflow_add-h : goal.overflow_add-h
-overflow_add-h c = omega (arith, c.slice_known-4-1.given 1)
+overflow_add-h c = omega arith
 
 pub bounds-h-0-then-count-h : goal.bounds-h-0-then-count-h
 bounds-h-0-then-count-h c = let a = c.args in omega (arith, its_words a.h.now a.e.now (sym c.housed.ensures ∙ c.if-not-housed.false))

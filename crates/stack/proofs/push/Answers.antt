@@ -41,7 +41,7 @@ returns-then-w-wide-2 c =
     did_bad place (stack.push a.data) a.h.now a.w.now (malformed a.h.now a.w.now (λ s. omega (arith, s, c.wide-2.ensures)))
 
 pub overflow_add-h : goal.overflow_add-h
-overflow_add-h c = omega (arith, c.slice_known-5-1.given 0)
+overflow_add-h c = omega arith
 
 pub returns : goal.returns
 returns c =

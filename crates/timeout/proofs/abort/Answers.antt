@@ -28,6 +28,6 @@ returns c = let a = c.args in
     aborted a.h.now
     (elim c.if-h.branch [
       | then-h+else-not-formed w ↦ sym w.formed.ensures ∙ w.if-not-formed.false
-      | else-h w ↦ sound-ahead a.h.now (omega arith) (omega (arith, w.if-h.false, c.slice_known-4-1.given 0)) (omega (arith, w.if-h.false))
+      | else-h w ↦ sound-ahead a.h.now (omega arith) (omega (arith, w.if-h.false)) (omega (arith, w.if-h.false))
     ])
     (omega arith)

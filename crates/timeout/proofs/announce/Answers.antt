@@ -46,6 +46,6 @@ returns c = let a = c.args in
     announce-fires a.h.now
     (elim c.if-h-clock.branch [
       | then-h-clock+else-not-formed w ↦ sym w.formed.ensures ∙ w.if-not-formed.false
-      | else-h-clock w ↦ sound-ahead a.h.now (omega arith) (omega (arith, w.if-h-clock.false, c.slice_known-4-1.given 0)) (omega (arith, w.if-h-clock.false))
+      | else-h-clock w ↦ sound-ahead a.h.now (omega arith) (omega (arith, w.if-h-clock.false)) (omega (arith, w.if-h-clock.false))
     ])
     a.ticks (omega arith) (omega arith) (omega arith)

@@ -13,10 +13,10 @@ pub returns-then-n : goal.returns-then-n
 returns-then-n c = expire-most c.args.h.now (omega arith) (omega arith)
 
 pub overflow_add-h : goal.overflow_add-h
-overflow_add-h c = omega (arith, c.slice_known-2-1.given 0)
+overflow_add-h c = omega arith
 
 pub overflow_add-n : goal.overflow_add-n
-overflow_add-n c = omega (arith, c.slice_known-2-1.given 0)
+overflow_add-n c = omega arith
 
 pub returns : goal.returns
-returns c = rw (answered64 {z = c.signed.result} c.signed.type_inv, c.signed.ensures, add-one) (expired c.args.h.now (omega arith) (omega (arith, c.slice_known-2-1.given 0)))
+returns c = rw (answered64 {z = c.signed.result} c.signed.type_inv, c.signed.ensures, add-one) (expired c.args.h.now (omega arith) (omega arith))
