@@ -1,0 +1,12 @@
+-- A new semaphore of count 0 and limit 2 is the run's first. Assumes nothing.
+use mathlib.Core.Path.{refl}
+use Rattle.wait_queue.specs.Queue.{max_waiters}
+use Rattle.demo.proofs.Steps.{made_code, made}
+use Rattle.demo.proofs.main.Goals as goal
+
+pub prove-unreachable-requires : goal.prove-unreachable-requires
+prove-unreachable-requires c = c.if-prove.true (rw (made_code refl refl c.init-made.ensures) refl)
+
+pub three_wait-requires : goal.three_wait-requires
+unfolding max_waiters
+three_wait-requires c = made refl refl c.init-made.ensures refl

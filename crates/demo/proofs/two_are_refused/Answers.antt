@@ -1,0 +1,23 @@
+-- Each answer is what the semaphore's definition gives, from the known numbers and queue on. Assumes nothing.
+use mathlib.Core.Path.{refl}
+use Rattle.thread.specs.Thread.{running}
+use Rattle.sem.specs.Post.{take_out}
+use Rattle.wait_queue.specs.Queue.{max_waiters}
+use Rattle.demo.proofs.Steps.{step}
+use Rattle.demo.proofs.two_are_refused.Goals as goal
+
+pub prove-unreachable-requires : goal.prove-unreachable-requires
+unfolding max_waiters
+prove-unreachable-requires c = c.if-prove.true (rw (step c.requires refl (take_out 8 6 running) c.take-twice.ensures).code refl)
+
+pub prove-unreachable-requires-2 : goal.prove-unreachable-requires-2
+unfolding max_waiters
+prove-unreachable-requires-2 c =
+    let a = step c.requires refl (take_out 8 6 running) c.take-twice.ensures in
+    c.if-prove-2.true (rw (step a.is refl (take_out 5 32 running) c.take-beyond.ensures).code refl)
+
+pub returns : goal.returns
+unfolding max_waiters
+returns c =
+    let a = step c.requires refl (take_out 8 6 running) c.take-twice.ensures in
+    (step a.is refl (take_out 5 32 running) c.take-beyond.ensures).is
