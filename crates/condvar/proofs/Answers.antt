@@ -6,8 +6,10 @@ use Prim.Native.Nat.{ℕ, ◌≤◌, ◌<◌}
 use native.Mathlib.Omega.{arith}
 use lib.Dec.{ltb}
 use lib.IntN.{ℤ, pos, negsuc}
+use lib.Signed.{lt_z, mag}
 use lib.ListN.{length, get_or, set}
 use borrow.Author.Tests.{lt-ltb, le-leb, lt-leb, ltb-true, ltb-false}
+use Rattle.seq.proofs.Integers.{negative, positive}
 use Rattle.seq.proofs.Words.{spell}
 use Rattle.thread.specs.Code.{ok, eagain, enomem, ebusy, einval}
 use Rattle.thread.specs.Caller.{caller_code}
@@ -177,3 +179,13 @@ module _ (i p st : ℕ) (h e m d : List ℕ) (w : ℕ) where
           go : Joins i p st h e → r ≡ waits
           go (barred n x) = never (sym (joined-now.code ∙ ap answer x) ∙ y)
           go (joins x) = joined-now.code ∙ ap answer x
+
+-- what it answers, by its sign
+module _ (i p st : ℕ) (h e m d : List ℕ) (w : ℕ) (g r : ℤ) (k : ℕ) (e' : List ℕ) (z : g ≡ release i p st h e m d w) (open_to : lt_z g (pos 0) ≡ false)
+    (b : 1 ≤ length h) (q : Enters i p (get_or h 0 0) e r k e') where
+  pub wait_refused : lt_z r (pos 0) ≡ true → Waits i p st h e m d w r (set h 0 k) e' m w
+  wait_refused t =
+      let y = positive g open_to in
+      let n = negative r t in
+      let j = sym z ∙ y in
+      rw n (wait_queue_lem i p st h e m d w (mag g) j b r k e' (wait-asked i p st h e m d w (mag g) j (get_or h 0 0) r k e' q) (mag r) n)

@@ -105,7 +105,8 @@ pub fn wait_blocking(
         return EINVAL;
     }
     let joined = wait_queue::enter(&mut h[0], e, id, priority);
-    if joined < 0 {
+    let refused = joined < 0;
+    if refused {
         return joined;
     }
     mutex::pass(mutex_h, mutex_e, who);

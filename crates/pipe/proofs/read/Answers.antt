@@ -8,7 +8,6 @@ use Rattle.pipe.specs.Post.{layout}
 use Rattle.pipe.proofs.Headers.{no_words}
 use Rattle.pipe.proofs.Answers.{took}
 use Rattle.pipe.proofs.read.Goals as goal
-use Rattle.pipe.proofs.read.Goals.{then-h-lt-FLAG_RESET+then-h-gt0+else-out-gt0, then-h-lt-FLAG_RESET+else-h-gt0, else-h-lt-FLAG_RESET}
 
 pub returns-then-h-lt4 : goal.returns-then-h-lt4
 returns-then-h-lt4 c =
@@ -22,11 +21,7 @@ returns-then-out-gt0 c =
     rw (answered64 {z = u.result} u.type_inv) (took a.h.now a.b.now (omega arith) a.out.now (omega arith) (omega arith) (omega arith) u.ensures)
 
 pub read_refusal-requires : goal.read_refusal-requires
-read_refusal-requires c = λ e f. (elim c.if-h-lt-FLAG_RESET.branch [
-  | then-h-lt-FLAG_RESET+then-h-gt0+else-out-gt0 w ↦ omega arith
-  | then-h-lt-FLAG_RESET+else-h-gt0 w ↦ omega arith
-  | else-h-lt-FLAG_RESET w ↦ omega arith
-])
+read_refusal-requires c = λ e f. grind arith
 
 pub overflow_cast-result-2 : goal.overflow_cast-result-2
 overflow_cast-result-2 c = let u = c.read_refusal in rw (answered {z = u.result} u.type_inv) (record { sfits = omega (arith, u.type_inv) })

@@ -7,7 +7,6 @@ use Rattle.pipe.specs.Post.{layout}
 use Rattle.pipe.proofs.Headers.{no_words}
 use Rattle.pipe.proofs.Answers.{took-all}
 use Rattle.pipe.proofs.read_all.Goals as goal
-use Rattle.pipe.proofs.read_all.Goals.{then-h-lt-FLAG_RESET+then-out-gt0+else-out-wide, then-h-lt-FLAG_RESET+else-out-gt0, else-h-lt-FLAG_RESET}
 
 pub returns-then-h-lt4 : goal.returns-then-h-lt4
 returns-then-h-lt4 c =
@@ -24,11 +23,7 @@ returns-then-out-wide c =
 
 pub read_all_refusal-requires : goal.read_all_refusal-requires
 read_all_refusal-requires c =
-    λ e f. (elim c.if-h-lt-FLAG_RESET.branch [
-      | then-h-lt-FLAG_RESET+then-out-gt0+else-out-wide w ↦ omega (arith, w)
-      | then-h-lt-FLAG_RESET+else-out-gt0 w ↦ omega arith
-      | else-h-lt-FLAG_RESET w ↦ omega arith
-    ])
+    λ e f. grind arith
 
 pub overflow_cast-result-2 : goal.overflow_cast-result-2
 overflow_cast-result-2 c = let u = c.read_all_refusal in rw (answered {z = u.result} u.type_inv) (record { sfits = omega (arith, u.type_inv) })

@@ -3,7 +3,6 @@ use native.Mathlib.Omega.{arith}
 use Rattle.seq.proofs.Integers.{answered}
 use Rattle.pipe.proofs.Verdicts.{read-all_improper, read-all-closed, read-all-none, read-all-pends, read-all-is}
 use Rattle.pipe.proofs.read_all_decide.Goals as goal
-use Rattle.pipe.proofs.read_all_decide.Goals.{then-flags-le-FLAG_OPEN+else-used-request_len, else-flags-le-FLAG_OPEN}
 
 pub returns-then-not-proper : goal.returns-then-not-proper
 returns-then-not-proper c = read-all_improper c.args.used c.args.size c.args.flags c.args.request_len c.args.has_writer c.args.actual_bytes.now c.args.new_used.now (sym c.proper.ensures ∙ c.if-not-proper.true)
@@ -20,7 +19,4 @@ returns-then-used-request_len c = read-all-pends c.args.used c.args.size c.args.
 pub returns : goal.returns
 returns c =
     rw (answered {z = c.read_decide.result} c.read_decide.type_inv)
-    (read-all-is c.args.used c.args.size c.args.flags c.args.request_len c.args.has_writer c.args.actual_bytes.now c.args.new_used.now (sym c.proper.ensures ∙ c.if-not-proper.false) (λ e. (elim c.if-flags-le-FLAG_OPEN.branch [
-      | then-flags-le-FLAG_OPEN+else-used-request_len w ↦ omega arith
-      | else-flags-le-FLAG_OPEN w ↦ omega arith
-    ])) c.read_decide.ensures)
+    (read-all-is c.args.used c.args.size c.args.flags c.args.request_len c.args.has_writer c.args.actual_bytes.now c.args.new_used.now (sym c.proper.ensures ∙ c.if-not-proper.false) (λ e. grind arith) c.read_decide.ensures)

@@ -7,7 +7,6 @@ use Rattle.pipe.specs.Post.{layout}
 use Rattle.pipe.proofs.Headers.{no_words}
 use Rattle.pipe.proofs.Answers.{wrote}
 use Rattle.pipe.proofs.write.Goals as goal
-use Rattle.pipe.proofs.write.Goals.{then-h-eq-FLAG_OPEN+then-h+else-src-gt0, then-h-eq-FLAG_OPEN+else-h, else-h-eq-FLAG_OPEN}
 
 pub returns-then-h-lt4 : goal.returns-then-h-lt4
 returns-then-h-lt4 c = did_bad layout (write c.args.src.now) c.args.h.now c.args.b.now (no_words c.args.h.now c.args.b.now (omega arith))
@@ -16,11 +15,7 @@ pub returns-then-src-gt0 : goal.returns-then-src-gt0
 returns-then-src-gt0 c = rw (answered64 {z = c.put_n.result} c.put_n.type_inv) (wrote c.args.h.now c.args.b.now (omega arith) c.args.src.now (omega arith) (omega arith) (omega arith) c.put_n.ensures)
 
 pub write_refusal-requires : goal.write_refusal-requires
-write_refusal-requires c = λ e f. (elim c.if-h-eq-FLAG_OPEN.branch [
-  | then-h-eq-FLAG_OPEN+then-h+else-src-gt0 w ↦ omega arith
-  | then-h-eq-FLAG_OPEN+else-h w ↦ omega arith
-  | else-h-eq-FLAG_OPEN w ↦ omega arith
-])
+write_refusal-requires c = λ e f. grind arith
 
 pub overflow_cast-result-2 : goal.overflow_cast-result-2
 overflow_cast-result-2 c = let u = c.write_refusal in rw (answered {z = u.result} u.type_inv) (record { sfits = omega (arith, u.type_inv) })

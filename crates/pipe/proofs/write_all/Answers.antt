@@ -6,7 +6,6 @@ use Rattle.pipe.specs.Post.{layout}
 use Rattle.pipe.proofs.Headers.{no_words}
 use Rattle.pipe.proofs.Answers.{wrote-all}
 use Rattle.pipe.proofs.write_all.Goals as goal
-use Rattle.pipe.proofs.write_all.Goals.{then-h-eq-FLAG_OPEN+then-used-h+then-src-gt0+else-src-wide, then-h-eq-FLAG_OPEN+then-used-h+else-src-gt0, then-h-eq-FLAG_OPEN+else-used-h, else-h-eq-FLAG_OPEN}
 
 pub returns-then-h-lt4 : goal.returns-then-h-lt4
 returns-then-h-lt4 c =
@@ -22,12 +21,7 @@ returns-then-src-wide c =
 
 pub write_all_refusal-requires : goal.write_all_refusal-requires
 write_all_refusal-requires c =
-    λ e f. (elim c.if-h-eq-FLAG_OPEN.branch [
-      | then-h-eq-FLAG_OPEN+then-used-h+then-src-gt0+else-src-wide w ↦ omega (arith, w)
-      | then-h-eq-FLAG_OPEN+then-used-h+else-src-gt0 w ↦ omega arith
-      | then-h-eq-FLAG_OPEN+else-used-h w ↦ omega arith
-      | else-h-eq-FLAG_OPEN w ↦ omega arith
-    ])
+    λ e f. grind arith
 
 pub overflow_cast-result-2 : goal.overflow_cast-result-2
 overflow_cast-result-2 c = let u = c.write_all_refusal in rw (answered {z = u.result} u.type_inv) (record { sfits = omega (arith, u.type_inv) })

@@ -3,7 +3,6 @@ use native.Mathlib.Omega.{arith}
 use Rattle.seq.proofs.Integers.{answered}
 use Rattle.pipe.proofs.Verdicts.{from-proper, write-all_improper, write-all-none, write-all-pends, write-all-is}
 use Rattle.pipe.proofs.write_all_decide.Goals as goal
-use Rattle.pipe.proofs.write_all_decide.Goals.{then-flags-eq-FLAG_OPEN+else-size-used, else-flags-eq-FLAG_OPEN}
 
 pub returns-then-not-proper : goal.returns-then-not-proper
 returns-then-not-proper c = write-all_improper c.args.used c.args.size c.args.flags c.args.request_len c.args.has_reader c.args.actual_bytes.now c.args.new_used.now (sym c.proper.ensures ∙ c.if-not-proper.true)
@@ -20,7 +19,4 @@ returns-then-size-used c = write-all-pends c.args.used c.args.size c.args.flags 
 pub returns : goal.returns
 returns c =
     rw (answered {z = c.write_decide.result} c.write_decide.type_inv)
-    (write-all-is c.args.used c.args.size c.args.flags c.args.request_len c.args.has_reader c.args.actual_bytes.now c.args.new_used.now (sym c.proper.ensures ∙ c.if-not-proper.false) (λ e. (elim c.if-flags-eq-FLAG_OPEN.branch [
-      | then-flags-eq-FLAG_OPEN+else-size-used w ↦ omega arith
-      | else-flags-eq-FLAG_OPEN w ↦ omega arith
-    ])) c.write_decide.ensures)
+    (write-all-is c.args.used c.args.size c.args.flags c.args.request_len c.args.has_reader c.args.actual_bytes.now c.args.new_used.now (sym c.proper.ensures ∙ c.if-not-proper.false) (λ e. grind arith) c.write_decide.ensures)

@@ -3,7 +3,6 @@ use mathlib.Core.Path.{sym, ◌∙◌}
 use native.Mathlib.Omega.{arith}
 use Rattle.wait_queue.proofs.Audits.{too_low, in_order, out_of_order, twice, once}
 use Rattle.wait_queue.proofs.sound_at.Goals as goal
-use Rattle.wait_queue.proofs.sound_at.Goals.{then-i-gt0+else-e-i, else-i-gt0}
 
 pub returns-then-p-ge32 : goal.returns-then-p-ge32
 returns-then-p-ge32 c = let a = c.args in too_low a.e.now a.i (omega arith)
@@ -15,12 +14,12 @@ pub returns-then-has : goal.returns-then-has
 returns-then-has c =
     let a = c.args in
     twice a.e.now a.i (omega arith)
-    (in_order a.e.now a.i (λ z. elim c.if-i-gt0.branch [ then-i-gt0+else-e-i w ↦ omega arith | else-i-gt0 w ↦ absurd (omega arith) ]))
+    (in_order a.e.now a.i (λ z. grind arith))
     (sym c.has.ensures ∙ c.if-has.true)
 
 pub returns : goal.returns
 returns c =
     let a = c.args in
     once a.e.now a.i (omega arith)
-    (in_order a.e.now a.i (λ z. elim c.if-i-gt0.branch [ then-i-gt0+else-e-i w ↦ omega arith | else-i-gt0 w ↦ absurd (omega arith) ]))
+    (in_order a.e.now a.i (λ z. grind arith))
     (sym c.has.ensures ∙ c.if-has.false)
