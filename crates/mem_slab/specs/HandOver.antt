@@ -6,7 +6,7 @@ use Rattle.store.specs.History.{after}
 use Rattle.mem_slab.specs.Slab.{allocs, frees, woke}
 use Rattle.mem_slab.specs.Post.{Allocs, Frees}
 
--- a free of b and then the alloc of the one that waits, in any memory: that one has b, and no word is another than before. So a hand_over
+-- a free of b and then the alloc of the one that waits, in any memory: that one has b, and no word is another than before. So a hand-over
 -- touches nothing, and the count of those that are out stays, which is what free_decide answers
 pub record HandedOver (b : ℕ) (h l : List ℕ) (r : ℤ) (h' l' : List ℕ) : Type 0 where
   pub block : r ≡ pos b

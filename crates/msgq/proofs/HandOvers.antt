@@ -53,7 +53,7 @@ purges c z s b p =
       out = refl;
     }
 
--- ---- what a hand_over is
+-- ---- what a hand-over is
 
 module _ (c z : ℕ) (q : Msgq) (g : Good c z q) where
   pub hands_over : (m : List ℕ) → length m ≡ z → q.ring.held ≡ [] → HandsOver m q

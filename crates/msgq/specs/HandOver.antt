@@ -123,7 +123,7 @@ pub record Purged (s s' : Waited) : Type 0 where
   pub cut : s'.line ≡ s.got
   pub out : s'.got ≡ s.got
 
--- ---- a hand_over is a put and a get
+-- ---- a hand-over is a put and a get
 
 -- of an empty queue: the message m goes to a reader, and no number moves; m put, and then got by the reader, leaves it empty as well
 pub record HandsOver (m : List ℕ) (q : Msgq) : Type 0 where
