@@ -2,6 +2,11 @@
 
 A function may have several clauses of a kind, each with a name; its contract is all of them. In a clause `result` is the
 answer, x.now what is behind a &, x.old and x.new what is behind a &mut before and after the call.
+
+A function that answers a Result says in its clause what C is told: `(told f result)` is the code, as `(f result)` is of an
+enum whose `ghost number` is f, and where C has a word that is written, the clause is of any word x, `(x : ℕ) → ..`, which holds `(kept g result x)` then. Of an answer that is a struct
+the first field that a clause names is the code, and the others are words. Such a clause is read in C's words: `result`, x.old
+and x.new.
 """
 
 import re
@@ -36,10 +41,45 @@ def pieces(text):
     return [piece.strip() for piece in found if piece.strip()]
 
 
+ANY_WORD = re.compile(r"^\((\w+(?: \w+)*) : ℕ\) → ")
+
+
+def as_told(clause, numbers):
+    """A clause in C's words, and the words that it is of; `numbers` are the functions that number an enum."""
+    binder = ANY_WORD.match(clause)
+    words = binder[1].split() if binder else []
+    clause = clause[binder.end() :] if binder else clause
+    for word in words:
+        clause = re.sub(rf"(?<![\w.'-]){word}(?![\w.'-])", f"{word}.old", clause)
+    fields = list(dict.fromkeys(re.findall(r"(?<![\w.'-])result\.(\w+)", clause)))
+    for field in fields:
+        clause = re.sub(rf"(?<![\w.'-])result\.{field}(?![\w'-])", "result" if field == fields[0] else f"{field}.new", clause)
+    words += fields[1:]
+    for number in numbers:
+        clause = clause.replace(f"({number} result)", "result")
+    while (told := re.search(r"\((told|kept) ", clause)) is not None:
+        end = closing(clause, told.start())
+        last = clause[told.start() + 1 : end].split()[-1]
+        clause = clause[: told.start()] + (last if told[1] == "told" else last.replace(".old", ".new")) + clause[end + 1 :]
+    return clause, words
+
+
+def variants(text):
+    """The variants of the enums of a .rt file, each with its number, or none, by the name Type::Variant."""
+    text = COMMENT.sub("", text)
+    found = {}
+    for match in re.finditer(r"^(?:pub )?enum (\w+)[^{\n]*\{", text, re.MULTILINE):
+        for piece in pieces(text[match.end() : closing(text, match.end() - 1)]):
+            name, number = re.fullmatch(r"(\w+).*?(?:= (-?\d+))?", piece, re.DOTALL).groups()
+            found[f"{match[1]}::{name}"] = int(number) if number else None
+    return found
+
+
 class Function:
     """A function of a .rt file; `owner` is the type of the impl that it stands in, or empty."""
 
-    def __init__(self, text, match, owner):
+    def __init__(self, text, match, owner, numbers):
+        self.numbers = numbers
         indent, public, _, self.name = match.groups()
         self.owner, self.public = owner, (public or "").strip() == "pub"
         self.line = text.count("\n", 0, match.start()) + 1
@@ -70,19 +110,24 @@ class Function:
 
     def said(self, kind):
         """Its clauses of a kind, `requires` or `ensures`."""
-        return [text for what, _, text in self.clauses if what == kind]
+        return [as_told(text, self.numbers)[0] for what, _, text in self.clauses if what == kind]
+
+    @property
+    def words(self):
+        """The words of C that its clauses are of."""
+        return list(dict.fromkeys(word for _, _, text in self.clauses for word in as_told(text, self.numbers)[1]))
 
 
 def functions(text):
     """The functions of a .rt file, in their order."""
     text = COMMENT.sub(lambda comment: re.sub(r"[^\n]", " ", comment[0]), text)
-    blocks = []
+    blocks, numbers = [], re.findall(r"ghost number = \{ (\w+) \}", text)
     for block in IMPL.finditer(text):
         end = text.find(f"\n{block[1]}}}", block.end())
         blocks.append((block.start(), end if end >= 0 else len(text), block[2]))
     for match in FUNCTION.finditer(text):
         inside = [owner for start, end, owner in blocks if start < match.start() < end]
-        yield Function(text, match, inside[-1] if inside else "")
+        yield Function(text, match, inside[-1] if inside else "", numbers)
 
 
 def brought(text):

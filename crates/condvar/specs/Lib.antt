@@ -1,4 +1,5 @@
 pub mod Condvar
+pub mod Answer
 pub mod Post
 pub mod History
 pub mod Upstream

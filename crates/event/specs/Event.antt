@@ -1,8 +1,15 @@
 -- Event flags: 32 flags, one in each bit of a word.
-use Rattle.std.specs.Prelude.{Bool, true, cond, not, ◌&&◌, ◌||◌, [], ℕ, eqb, leb, ℤ, pos}
+use Rattle.std.specs.Prelude.{◌≡◌, Bool, true, cond, not, ◌&&◌, ◌||◌, [], ℕ, ◌<◌, eqb, leb, ℤ, pos, Result, MatchResult}
 use Rattle.seq.specs.Bits.{bit, bits, any_of, all_of}
 use Rattle.thread.specs.Code.{ok, ebusy, einval}
+use Rattle.thread.specs.declared.Errno.{Errno}
+use Rattle.thread.specs.declared.Errno.TheVariants.{EINVAL}
 use Rattle.store.specs.Store.{Reply, refuse, accept}
+use Rattle.event.specs.declared.WaitType.{WaitType}
+use Rattle.event.specs.declared.WaitType.TheVariants.{Any, All}
+use Rattle.event.specs.declared.WaitDecision.{WaitDecision}
+use Rattle.event.specs.declared.WaitDecision.TheVariants.{Matched, Pend}
+use Rattle.event.specs.declared.WaitDecideResult.{WaitDecideResult}
 
 abbrev pub width : ℕ
 width = 32
@@ -55,6 +62,14 @@ wait_any = 0
 abbrev pub wait_all : ℕ
 wait_all = 1
 
+-- the number of a type, and the type that a number is read as: no other has one
+abbrev pub type_number : WaitType → ℕ
+type_number Any = wait_any
+type_number All = wait_all
+
+abbrev pub ReadsType : ℕ → Result WaitType Errno → Type 0
+ReadsType n r = MatchResult r (λ t. type_number t ≡ n) (λ e. (e ≡ EINVAL) × (wait_all < n))
+
 abbrev pub met : (type desired e : ℕ) → Bool
 met type desired e = cond (eqb type wait_all) (all_there desired e) (any_there desired e)
 
@@ -64,6 +79,17 @@ matched = ok
 
 abbrev pub pends : ℤ
 pends = pos 1
+
+-- the number of a decision, the answer of its result, and the flags that go to a word
+abbrev pub decision_number : WaitDecision → ℤ
+decision_number Matched = matched
+decision_number Pend = pends
+
+abbrev pub decided : WaitDecideResult → ℤ
+decided r = decision_number r.decision
+
+abbrev pub its_flags : WaitDecideResult → ℕ → ℕ
+its_flags r n = r.matched_events
 
 -- what a wait is to do, and the flags for which it is over
 abbrev pub waits : (e desired type : ℕ) → (no_wait : Bool) → Reply ℕ

@@ -1,5 +1,7 @@
 -- The flags in memory: h = the word of flags, and no buffer. Every word is fine. What each function does.
-use Rattle.std.specs.Prelude.{◌≡◌, Bool, true, List, [], ℕ, leb, ℤ, pos, length, get_or}
+use Rattle.std.specs.Prelude.{◌≡◌, Bool, true, List, [], ℕ, ◌<◌, ◌≤◌, leb, ℤ, pos, length, get_or, slice_index_or, slice_set, Result, MatchResult}
+use Rattle.thread.specs.declared.Errno.{Errno}
+use Rattle.thread.specs.declared.Errno.TheVariants.{EINVAL}
 use Rattle.store.specs.Store.{Decided, Place, Did, looks, Started}
 use Rattle.event.specs.Event.{masked, post, set, set_masked, clear, any_there, all_there, told, waits}
 
@@ -25,6 +27,11 @@ SetsMasked new mask h r h' = Did place (set_masked new mask) h [] r h' []
 -- these are gone
 abbrev pub Clears : ℕ → List ℕ → ℤ → List ℕ → Type 0
 Clears gone h r h' = Did place (clear gone) h [] r h' []
+
+-- the flags before a change and after it, which the change P allows
+abbrev pub Changed : (ℕ → ℕ → Type 0) → List ℕ → Result (ℕ × ℕ) Errno → List ℕ → Type 0
+Changed P h r h' =
+    MatchResult r (λ e. (1 ≤ length h) × (e.0 ≡ slice_index_or h 0 0) × P e.0 e.1 × (h' ≡ slice_set h 0 e.1)) (λ x. (length h < 1) × (x ≡ EINVAL) × (h' ≡ h))
 
 -- whether one desired flag is there, and whether each is
 abbrev pub ChecksAny : ℕ → List ℕ → ℤ → Type 0

@@ -1,163 +1,170 @@
 // Event flags, in place: Gale's event.rs. h: the word of flags, one in each bit.
 #![tactic(auto)]
 
-ghost use Rattle.std.specs.Prelude.{◌≡◌};
-ghost use Rattle.event.specs.Event.{post, set, clear, any_there, all_there, met};
-ghost use Rattle.event.specs.Post.{Starts, Posts, Sets, SetsMasked, Clears, ChecksAny, ChecksAll, GetsEvents, WaitDecided, PostDecided};
+ghost use Rattle.std.specs.Prelude.{◌≡◌, [], ℕ, pos};
+ghost use Rattle.store.specs.Store.{looks};
+ghost use Rattle.thread.specs.Answer.{told, kept, done, truth};
+ghost use Rattle.event.specs.Event.{met, type_number, ReadsType, decided, its_flags};
+ghost use Rattle.event.specs.Post.{Starts, Posts, Sets, SetsMasked, Clears, ChecksAny, ChecksAll, GetsEvents, WaitDecided, PostDecided, Changed, place};
 
-use thread::{EBUSY, EINVAL, OK};
+use std::mem;
+use thread::Coded;
+use thread::Errno::{self, EBUSY, EINVAL};
 
 // For what a thread waits: for any desired flag, or for all of them.
-pub const WAIT_ANY: u32 = 0;
+#[derive(Clone, Copy, Debug, PartialEq, Eq)]
+pub enum WaitType {
+    Any = 0,
+    All = 1,
+}
 
-pub const WAIT_ALL: u32 = 1;
+impl TryFrom<u32> for WaitType {
+    type Error = Errno;
 
-// What a wait is to do, in the order of Gale's WaitDecision.
-pub const MATCHED: i32 = 0;
+    ghost try_from_gives = { ReadsType };
 
-pub const PEND: i32 = 1;
-
-// OK: no flag is there.
-pub fn init(h: &mut [u32]) -> i32
-    ensures { Starts h.old result h.new }
-{
-    if h.len() < 1 {
-        return EINVAL;
+    fn try_from(wait_type: u32) -> Result<Self, Errno> {
+        match wait_type {
+            0 => Ok(WaitType::Any),
+            1 => Ok(WaitType::All),
+            _ => Err(EINVAL),
+        }
     }
-    h[0] = 0;
-    OK
+}
+
+// What a wait is to do.
+#[derive(Clone, Copy, Debug, PartialEq, Eq)]
+pub enum WaitDecision {
+    Matched = 0,
+    Pend = 1,
+}
+
+// That, and the desired flags that are there; none, if it is to wait.
+#[derive(Clone, Copy, Debug, PartialEq, Eq)]
+pub struct WaitDecideResult {
+    pub decision: WaitDecision,
+    pub matched_events: u32,
+}
+
+impl Coded for WaitDecideResult {
+    ghost number = { decided };
+
+    fn code(self) -> i32 {
+        self.decision as i32
+    }
+}
+
+// No flag is there.
+pub fn init(h: &mut [u32]) -> Result<(), Errno>
+    ensures { Starts h.old (told done result) h.new }
+{
+    let [events, ..] = h else {
+        return Err(EINVAL);
+    };
+    *events = 0;
+    Ok(())
+}
+
+// The flags before a change, and after it.
+fn changed<F: FnOnce(u32) -> u32>(h: &mut [u32], change: F) -> Result<(u32, u32), Errno>
+    requires { F.IsAlwaysCallable change }
+    ensures { Changed (F.post change) h.old result h.new }
+{
+    let [events, ..] = h else {
+        return Err(EINVAL);
+    };
+    let before = *events;
+    *events = change(before);
+    Ok((before, *events))
 }
 
 // The flags after it.
-pub fn post(h: &mut [u32], new_events: u32) -> i64
-    ensures { Posts new_events h.old result h.new }
+pub fn post(h: &mut [u32], new_events: u32) -> Result<u32, Errno>
+    ensures { Posts new_events h.old (told pos result) h.new }
 {
-    if h.len() < 1 {
-        return -22;
-    }
-    let e = h[0] | new_events;
-    h[0] = e;
-    seq::signed(e)
+    Ok(changed(h, |events| events | new_events)?.1)
 }
 
 // The flags before it.
-pub fn set(h: &mut [u32], new_events: u32) -> i64
-    ensures { Sets new_events h.old result h.new }
+pub fn set(h: &mut [u32], new_events: u32) -> Result<u32, Errno>
+    ensures { Sets new_events h.old (told pos result) h.new }
 {
-    if h.len() < 1 {
-        return -22;
-    }
-    let e = h[0];
-    h[0] = new_events;
-    seq::signed(e)
+    Ok(changed(h, |_| new_events)?.0)
 }
 
 // The flags before it.
-pub fn set_masked(h: &mut [u32], new_events: u32, mask: u32) -> i64
-    ensures { SetsMasked new_events mask h.old result h.new }
+pub fn set_masked(h: &mut [u32], new_events: u32, mask: u32) -> Result<u32, Errno>
+    ensures { SetsMasked new_events mask h.old (told pos result) h.new }
 {
-    if h.len() < 1 {
-        return -22;
-    }
-    let e = h[0];
-    h[0] = post_decide(e, new_events, mask);
-    seq::signed(e)
+    Ok(changed(h, |events| post_decide(events, new_events, mask))?.0)
 }
 
 // The flags after it.
-pub fn clear(h: &mut [u32], clear_events: u32) -> i64
-    ensures { Clears clear_events h.old result h.new }
+pub fn clear(h: &mut [u32], clear_events: u32) -> Result<u32, Errno>
+    ensures { Clears clear_events h.old (told pos result) h.new }
 {
-    if h.len() < 1 {
-        return -22;
-    }
-    let e = h[0] & !clear_events;
-    h[0] = e;
-    seq::signed(e)
-}
-
-// Whether one of the flags d is among e.
-fn any_there(e: u32, d: u32) -> bool
-    ensures { result ≡ any_there d e }
-{
-    e & d != 0
-}
-
-// Whether each of the flags d is among e.
-fn all_there(e: u32, d: u32) -> bool
-    ensures { result ≡ all_there d e }
-{
-    e & d == d
+    Ok(changed(h, |events| events & !clear_events)?.1)
 }
 
 // Whether the flags e end a wait of this type for d.
-fn is_met(e: u32, d: u32, wait_type: u32) -> bool
-    ensures { result ≡ met wait_type d e }
+fn is_met(e: u32, d: u32, wait_type: WaitType) -> bool
+    ensures { result ≡ met (type_number wait_type) d e }
 {
-    if wait_type == WAIT_ALL {
-        return all_there(e, d);
+    match wait_type {
+        WaitType::Any => e & d != 0,
+        WaitType::All => e & d == d,
     }
-    any_there(e, d)
 }
 
-// 1: yes; 0: no.
-pub fn wait_check_any(h: &[u32], desired: u32) -> i32
-    ensures { ChecksAny desired h.now result }
+fn wait_check(h: &[u32], desired: u32, wait_type: WaitType) -> Result<bool, Errno>
+    ensures { told truth result ≡ looks place (λ e. truth (met (type_number wait_type) desired e)) h.now [] }
 {
-    if h.len() < 1 {
-        return EINVAL;
-    }
-    if any_there(h[0], desired) {
-        return 1;
-    }
-    0
+    Ok(is_met(events_get(h)?, desired, wait_type))
 }
 
-// 1: yes; 0: no.
-pub fn wait_check_all(h: &[u32], desired: u32) -> i32
-    ensures { ChecksAll desired h.now result }
+pub fn wait_check_any(h: &[u32], desired: u32) -> Result<bool, Errno>
+    ensures { ChecksAny desired h.now (told truth result) }
 {
-    if h.len() < 1 {
-        return EINVAL;
-    }
-    if all_there(h[0], desired) {
-        return 1;
-    }
-    0
+    wait_check(h, desired, WaitType::Any)
 }
 
-pub fn events_get(h: &[u32]) -> i64
-    ensures { GetsEvents h.now result }
+pub fn wait_check_all(h: &[u32], desired: u32) -> Result<bool, Errno>
+    ensures { ChecksAll desired h.now (told truth result) }
 {
-    if h.len() < 1 {
-        return -22;
-    }
-    seq::signed(h[0])
+    wait_check(h, desired, WaitType::All)
 }
 
-// MATCHED: matched is the desired flags that are there; PEND: it is none; EBUSY: the caller may not wait. EINVAL: a wait type above 1.
-// matched is written unless it is refused.
+pub fn events_get(h: &[u32]) -> Result<u32, Errno>
+    ensures { GetsEvents h.now (told pos result) }
+{
+    let &[events, ..] = h else {
+        return Err(EINVAL);
+    };
+    Ok(events)
+}
+
+// EBUSY: the caller may not wait. EINVAL: a wait type above 1.
 pub fn wait_decide(
     current_events: u32,
     desired: u32,
     wait_type: u32,
     is_no_wait: bool,
-    matched: &mut u32,
-) -> i32
-    ensures { WaitDecided current_events desired wait_type is_no_wait matched.old result matched.new }
+) -> Result<WaitDecideResult, Errno>
+    ensures { (n : ℕ) → WaitDecided current_events desired wait_type is_no_wait n (told decided result) (kept its_flags result n) }
 {
-    if WAIT_ALL < wait_type {
-        return EINVAL;
-    }
-    if is_met(current_events, desired, wait_type) {
-        *matched = current_events & desired;
-        return MATCHED;
+    if is_met(current_events, desired, WaitType::try_from(wait_type)?) {
+        return Ok(WaitDecideResult {
+            decision: WaitDecision::Matched,
+            matched_events: current_events & desired,
+        });
     }
     if is_no_wait {
-        return EBUSY;
+        return Err(EBUSY);
     }
-    *matched = 0;
-    PEND
+    Ok(WaitDecideResult {
+        decision: WaitDecision::Pend,
+        matched_events: 0,
+    })
 }
 
 // The flags of the mask are as in new_events, the others as they are.

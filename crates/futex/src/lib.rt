@@ -1,139 +1,158 @@
-// The futex with its wait queue, in place: Gale's futex.rs. h: the value, how many wait; e: the queue of those.
+// The futex with its wait queue, in place: Gale's futex.rs. h: the value, how many wait; e: the queue of those. They stay two slices:
+// a wake takes the entries shared, which says by its type that it leaves them, so a struct of both would need three kinds of borrow.
 #![tactic(auto)]
 
-ghost use Rattle.std.specs.Prelude.{◌≡◌};
+ghost use Rattle.std.specs.Prelude.{◌≡◌, ℕ, pos};
+ghost use Rattle.thread.specs.Answer.{told, kept, done};
+ghost use Rattle.wait_queue.specs.Turn.{outcome};
 ghost use Rattle.kind.specs.Object.{sane};
 ghost use Rattle.futex.specs.Futex.{futex_kind};
+ghost use Rattle.futex.specs.Decision.{woken, remaining};
 ghost use Rattle.futex.specs.Post.{layout, Starts, Waits, Wakes, SetsVal, GetsVal, CountsWaiters, Audits, WaitDecided, WakeDecided};
 
-use thread::{EAGAIN, EINVAL, MAX_PRIORITY, OK, RUNNING};
-use wait_queue::WAITS;
+use thread::Errno::{self, EAGAIN, EINVAL};
+use thread::{Caller, Coded, OK};
+use wait_queue::Outcome;
+
+// How many are to be woken, and how many stay.
+#[derive(Clone, Copy, Debug, PartialEq, Eq)]
+pub struct WakeDecision {
+    pub woken: u16,
+    pub remaining: u32,
+}
+
+impl Coded for WakeDecision {
+    ghost number = { woken };
+
+    fn code(self) -> i32 {
+        self.woken.code()
+    }
+}
 
 // Whether the memory is as it should be; every value is.
 fn formed(h: &[u32], e: &[u64]) -> bool
     ensures { result ≡ sane futex_kind layout h.now e.now }
 {
-    if h.len() < 2 {
+    let &[_, len, ..] = h else {
         return false;
-    }
-    wait_queue::fits(h[1], e)
+    };
+    wait_queue::fits(len, e)
 }
 
-// WAITS: the caller is to wait; EAGAIN.
-pub fn wait_decide(val: u32, expected: u32) -> i32
-    ensures { WaitDecided val expected result }
+// Blocked: the caller is to wait; EAGAIN.
+pub fn wait_decide(val: u32, expected: u32) -> Result<Outcome, Errno>
+    ensures { WaitDecided val expected (told outcome result) }
 {
     if val != expected {
-        return EAGAIN;
+        return Err(EAGAIN);
     }
-    WAITS
+    Ok(Outcome::Blocked)
 }
 
-// How many are to be woken, and remaining is how many stay; EINVAL: more than can wait.
-pub fn wake_decide(num_waiters: u32, wake_all: bool, remaining: &mut u32) -> i32
-    ensures { WakeDecided num_waiters wake_all remaining.old result remaining.new }
+// EINVAL: more than can wait.
+pub fn wake_decide(num_waiters: u32, wake_all: bool) -> Result<WakeDecision, Errno>
+    ensures { (m : ℕ) → WakeDecided num_waiters wake_all m (told woken result) (kept remaining result m) }
 {
     if wait_queue::over(num_waiters) {
-        return EINVAL;
+        return Err(EINVAL);
     }
-    if wake_all {
-        *remaining = 0;
-        return num_waiters as i32;
-    }
-    if num_waiters == 0 {
-        *remaining = 0;
-        return 0;
-    }
-    *remaining = num_waiters - 1;
-    1
+    let woken = if wake_all {
+        num_waiters
+    } else {
+        num_waiters.min(1)
+    };
+    Ok(WakeDecision {
+        woken: woken as u16,
+        remaining: num_waiters - woken,
+    })
 }
 
-// OK.
-pub fn init(h: &mut [u32], val: u32) -> i32
-    ensures { Starts val h.old result h.new }
+pub fn init(h: &mut [u32], val: u32) -> Result<(), Errno>
+    ensures { Starts val h.old (told done result) h.new }
 {
     if h.len() < 2 {
-        return EINVAL;
+        return Err(EINVAL);
     }
     h[0] = val;
     h[1] = 0;
-    OK
+    Ok(())
 }
 
-// WAITS: the value is the expected one, and the thread waits, behind all of equal or higher priority; EAGAIN: it is another.
-pub fn wait(h: &mut [u32], e: &mut [u64], expected: u32, id: u32, priority: u32, state: u32) -> i32
-    ensures { Waits expected id priority state h.old e.old result h.new e.new }
+// Blocked: the value is the expected one, and the thread waits, behind all of equal or higher priority; EAGAIN: it is another.
+pub fn wait(h: &mut [u32], e: &mut [u64], expected: u32, caller: Caller) -> Result<Outcome, Errno>
+    ensures { Waits expected caller.id caller.priority caller.state h.old e.old (told outcome result) h.new e.new }
 {
     if !formed(h, e) {
-        return EINVAL;
+        return Err(EINVAL);
     }
     if h[0] == expected {
-        return wait_queue::pend(&mut h[1], e, id, priority, state);
+        return wait_queue::pend(&mut h[1], e, caller);
     }
-    if state != RUNNING {
-        return wait_queue::caller(priority, state);
-    }
-    if MAX_PRIORITY <= priority {
-        return EINVAL;
-    }
-    EAGAIN
+    caller.may_wait()?;
+    Err(EAGAIN)
 }
 
 // How many were woken: the first or all, each with 0.
-pub fn wake(h: &mut [u32], e: &[u64], wake_all: bool, out: &mut [u64]) -> i32
-    ensures { Wakes wake_all h.old e.now out.old result h.new out.new }
+pub fn wake(h: &mut [u32], e: &[u64], wake_all: bool, out: &mut [u64]) -> Result<u16, Errno>
+    ensures { Wakes wake_all h.old e.now out.old (told pos result) h.new out.new }
 {
     if !formed(h, e) {
-        return EINVAL;
+        return Err(EINVAL);
     }
     if wake_all {
         return wait_queue::unpend_all(&mut h[1], e, OK, out);
     }
-    if h[1] == 0 {
-        return 0;
+    let [first, ..] = out else {
+        if h[1] == 0 {
+            return Ok(0);
+        }
+        return Err(EINVAL);
+    };
+    match wait_queue::unpend_first(&mut h[1], e, OK)? {
+        Some(who) => {
+            *first = who;
+            Ok(1)
+        }
+        None => Ok(0),
     }
-    if out.len() < 1 {
-        return EINVAL;
-    }
-    wait_queue::unpend_first(&mut h[1], e, OK, &mut out[0]);
-    1
 }
 
-// OK: the value is val, and nobody is woken.
-pub fn val_set(h: &mut [u32], e: &[u64], val: u32) -> i32
-    ensures { SetsVal val h.old e.now result h.new }
+// Nobody is woken.
+pub fn val_set(h: &mut [u32], e: &[u64], val: u32) -> Result<(), Errno>
+    ensures { SetsVal val h.old e.now (told done result) h.new }
 {
     if !formed(h, e) {
-        return EINVAL;
+        return Err(EINVAL);
     }
     h[0] = val;
-    OK
+    Ok(())
 }
 
-pub fn val_get(h: &[u32], e: &[u64]) -> i64
-    ensures { GetsVal h.now e.now result }
+// One function of the word's index, for this and num_waiters, would be no plainer: a pattern says which word is meant, and an index does not.
+pub fn val_get(h: &[u32], e: &[u64]) -> Result<u32, Errno>
+    ensures { GetsVal h.now e.now (told pos result) }
 {
-    if !formed(h, e) {
-        return -22;
+    match *h {
+        [val, len, ..] if wait_queue::fits(len, e) => Ok(val),
+        _ => Err(EINVAL),
     }
-    seq::signed(h[0])
 }
 
-pub fn num_waiters(h: &[u32], e: &[u64]) -> i64
-    ensures { CountsWaiters h.now e.now result }
+pub fn num_waiters(h: &[u32], e: &[u64]) -> Result<u32, Errno>
+    ensures { CountsWaiters h.now e.now (told pos result) }
 {
-    if !formed(h, e) {
-        return -22;
+    match *h {
+        [_, len, ..] if wait_queue::fits(len, e) => Ok(len),
+        _ => Err(EINVAL),
     }
-    seq::signed(h[1])
 }
 
 // Whether the whole futex is well formed.
 pub fn audit(h: &[u32], e: &[u64]) -> bool
     ensures { Audits h.now e.now result }
 {
-    if !formed(h, e) {
+    let &[_, len, ..] = h else {
         return false;
-    }
-    wait_queue::audit(h[1], e)
+    };
+    wait_queue::audit(len, e)
 }

@@ -16,7 +16,7 @@ use Rattle.thread.specs.Thread.{running}
 use Rattle.thread.specs.Caller.{caller_code}
 use Rattle.store.specs.Store as store
 use Rattle.store.specs.Store.{Reply, refuse, accept, answer, out, asked, fitting, reply, Did, looks, Filled, first, Fills, Hands}
-use Rattle.store.proofs.Laws.{refuses-place, handed-is, carry-out, looks-is, looks_bad, answers, start-short, start_bad, start-made}
+use Rattle.store.proofs.Laws.{refuses-place, handed-is, carry-out, looks-is, looks_bad, answers, start-short, start-made}
 use Rattle.wait_queue.specs.Queue.{max_waiters, entry, ident, woken, waiting, holds, joined}
 use Rattle.wait_queue.specs.Turn.{wait_queue, waits, parked, pend, unpend_first, unpend_all}
 use Rattle.wait_queue.specs.Post.{Pends, UnpendsFirst, UnpendsAll}
@@ -116,11 +116,6 @@ module _ (K : Kind) (L : Layout K.Num) (v : ℕ → K.Wish) (w : Caller) (k : K.
 
         -- to a list: if there is room for it
         module _ (out : List ℕ) where
-          pub no_place-one : length out < 1 → Fills (standing L) (fitting (length out) (call K v w k)) h e out einval h out
-          no_place-one c =
-              refuses-place (standing L) (fitting (length out) (call K v w k)) h e
-              (is-on L (fitting (length out) (call K v w k)) h e whole.housed ∙ rw (lone, lt-leb 1 (length out) c)) out
-
           pub wakes-one : (h' : List ℕ) (a : ℤ) (m x' : ℕ) → 1 ≤ length out → UnpendsFirst u (get_or h L.len 0) e (get_or out 0 0) a m x' → Header L h n m h'
               → Fills (standing L) (fitting (length out) (call K v w k)) h e out r h' (set out 0 x')
           wakes-one h' a m x' c d p =
@@ -230,9 +225,6 @@ module _ (K : Kind) (L : Layout K.Num) (g : Object K.Num → ℤ) (h e : List �
 module _ (K : Kind) (L : Layout K.Num) (n : K.Num) (h : List ℕ) where
   pub opens-short : length h < suc L.len → Opened K L n h einval h
   opens-short b = record { with = λ e g. start-short b }
-
-  pub opens_bad : suc L.len ≤ length h → K.formed n false ≡ false → Opened K L n h einval h
-  opens_bad b f = record { with = λ e g. start_bad b f }
 
   pub opens-made : (h' : List ℕ) → suc L.len ≤ length h → K.formed n false ≡ true → Header L h n 0 h' → Opened K L n h ok h'
   opens-made h' b f t = record { with = λ e g. start-made b f (opened_so L h e n h' b t g) }

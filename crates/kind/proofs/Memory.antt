@@ -10,7 +10,7 @@ use lib.ListN.{length, get_or, set, drop, length-set}
 use lib.Seq.{drop-set-lt}
 use borrow.Author.Tests.{lt-ltb, le-leb, leb-true}
 use Rattle.seq.specs.List.{any}
-use Rattle.seq.proofs.Order.{clash, cond_same}
+use Rattle.seq.proofs.Order.{clash}
 use Rattle.thread.specs.Code.{einval}
 use Rattle.store.specs.Store.{Reply, refuse, accept, answer, left, carry, reply, Becomes, Did}
 use Rattle.store.specs.Product.{◌⊗◌, behind, numbers}
@@ -19,10 +19,8 @@ use Rattle.store.proofs.Product.{lent-word, reshaped, with_first, second_acts}
 use Rattle.store.proofs.Histories.{done}
 use Rattle.wait_queue.specs.Queue.{waiting, roomy}
 use Rattle.wait_queue.specs.Turn.{wait_queue}
-use Rattle.wait_queue.specs.Post as queue
-use Rattle.wait_queue.proofs.Memory.{roomy-zero}
 use Rattle.kind.specs.Kind.{Kind}
-use Rattle.kind.specs.Object.{Object, queued, fine, Layout, standing, sized, sane, Audited}
+use Rattle.kind.specs.Object.{Object, queued, fine, Layout, standing, sane}
 
 -- the memory of an object is there
 pub record Housed {N : Type 0} (L : Layout N) (h e : List ℕ) : Type 0 where
@@ -138,45 +136,6 @@ module _ (K : Kind) (L : Layout K.Num) (h e : List ℕ) where
       go true false x y z = clash (sym z)
       go false b x y z = clash (sym z)
 
-  -- by the room, then by what the words hold
-  pub unsized : sized (suc L.len) h e ≡ false → sane K L h e ≡ false
-  unsized s = go (leb (suc L.len) (length h)) (roomy (get_or h L.len 0) e) refl refl s
-    where
-      none : roomy 0 e ≡ false → roomy (get_or h L.len 0) e ≡ true → true ≡ false
-      none x y = sym (roomy-zero (get_or h L.len 0) e y) ∙ x
-
-      go : (a b : Bool) → leb (suc L.len) (length h) ≡ a → roomy (get_or h L.len 0) e ≡ b → cond a (roomy 0 e) false ≡ false
-          → cond a (cond b (K.formed (L.num h) (ltb 0 (get_or h L.len 0))) false) false ≡ false
-      go true true x y z = clash (none z y)
-      go true false x y z = refl
-      go false b x y z = refl
-
-  module _ (s : sized (suc L.len) h e ≡ true) where
-    pub sized-words : suc L.len ≤ length h
-    sized-words = go (leb (suc L.len) (length h)) refl s
-      where
-        go : (a : Bool) → leb (suc L.len) (length h) ≡ a → cond a (roomy 0 e) false ≡ true → suc L.len ≤ length h
-        go true x z = leb-true (suc L.len) (length h) x
-        go false x z = clash (sym z)
-
-    sized-room : roomy 0 e ≡ true
-    sized-room = go (leb (suc L.len) (length h)) s
-      where
-        go : (a : Bool) → cond a (roomy 0 e) false ≡ true → roomy 0 e ≡ true
-        go true z = z
-        go false z = clash (sym z)
-
-    -- nobody waits
-    pub idle-sane : get_or h L.len 0 ≡ 0 → K.formed (L.num h) false ≡ true → sane K L h e ≡ true
-    idle-sane z f = rw (le-leb (suc L.len) (length h) sized-words, z, sized-room, f)
-
-    -- the numbers are not as they should be
-    pub misnumbered : K.formed (L.num h) (ltb 0 (get_or h L.len 0)) ≡ false → sane K L h e ≡ false
-    misnumbered f = rw (le-leb (suc L.len) (length h) sized-words, f) (cond_same (roomy (get_or h L.len 0) e) false)
-
-    pub roomy-sane : roomy (get_or h L.len 0) e ≡ true → K.formed (L.num h) (ltb 0 (get_or h L.len 0)) ≡ true → sane K L h e ≡ true
-    roomy-sane r f = rw (le-leb (suc L.len) (length h) sized-words, r, f)
-
   pub formed-queue : Sane K L h e → K.formed (L.num h) (any (waiting e (get_or h L.len 0))) ≡ true
   formed-queue m = rw (any-waiting e (get_or h L.len 0)) m.numbers
 
@@ -200,14 +159,3 @@ module _ (K : Kind) (L : Layout K.Num) (h e : List ℕ) where
       go true true x y z = r ((standing L).object h e) (rw (fine, any-waiting e (get_or h L.len 0)) z)
       go true false x y z = refl
       go false b x y z = refl
-
-  -- the audit: of the numbers, then of the queue
-  pub audit_insane : sane K L h e ≡ false → Audited K L h e false
-  audit_insane s = record { sound = λ z. clash (sym z); complete = λ w. clash (sym w.0 ∙ s) }
-
-  pub audit-queue : (r : Bool) → sane K L h e ≡ true → queue.Audits (get_or h L.len 0) e r → Audited K L h e r
-  audit-queue r s a =
-      record {
-        sound = λ z. (s, (a.sound z).1);
-        complete = λ w. a.complete ((is-sane s).housed.room, w.1);
-      }

@@ -8,8 +8,5 @@ ghost use Rattle.kind.specs.Post.{SaysHoused};
 pub fn housed(h: &[u32], words: usize, e: &[u64]) -> bool
     ensures { SaysHoused words h.now e.now result }
 {
-    if h.len() < words {
-        return false;
-    }
-    wait_queue::fits(0, e)
+    words <= h.len() && wait_queue::fits(0, e)
 }

@@ -5,47 +5,24 @@ use mathlib.Core.List.{List, []}
 use Prim.Native.Nat.{ℕ, ◌+◌, ◌-◌, ◌≤◌, ◌<◌}
 use native.Mathlib.Numerals.{add-one}
 use native.Mathlib.Omega.{arith}
-use lib.Dec.{ltb, eqb}
 use lib.IntN.{pos}
 use lib.ListN.{get_or, take, set, length-set}
 use lib.Seq.{get_or-take, take-set-lt, drop-set-lt}
-use borrow.Author.Tests.{lt-ltb, le-ltb, le-leb, lt-leb, ltb-true, eq-eqb, ne_eqb}
+use borrow.Author.Tests.{lt-ltb, eq-eqb, ne_eqb}
 use Rattle.seq.proofs.Words.{spelled, spell}
-use Rattle.thread.specs.Code.{ok, enomem, einval}
+use Rattle.thread.specs.Code.{ok, einval}
 use Rattle.store.specs.Store.{Becomes}
-use Rattle.store.proofs.Laws.{decides, declines, did_no, did_yes}
-use Rattle.mem_slab.specs.Slab.{Slab, is_out, waits, woke, leads, alloc, free}
-use Rattle.mem_slab.specs.Post.{slab, place, fit, led, is_full, is_empty, Allocs, Frees, AllocDecided, FreeDecided}
-use Rattle.mem_slab.proofs.Memory.{both, sound-is, Fit, fit_is, is-fit, leads-is, next-link, unfit}
+use Rattle.store.proofs.Laws.{did_no, did_yes}
+use Rattle.std.specs.Prelude.{Ok}
+use Rattle.mem_slab.specs.declared.Numbers.{Numbers}
+use Rattle.mem_slab.specs.Answer.{numbers}
+use Rattle.mem_slab.specs.Slab.{Slab, is_out, leads, alloc, free}
+use Rattle.mem_slab.specs.Post.{slab, place, fit, led, is_full, is_empty, Allocs, Frees}
+use Rattle.mem_slab.proofs.Memory.{sound-is, Fit, fit_is, is-fit, leads-is, next-link, unfit}
 
--- on plain numbers
-module _ (u n m : ℕ) where
-  pub alloc-none : (w : Bool) → n ≡ 0 → AllocDecided u n w m einval m
-  alloc-none w h = declines m (rw (le-ltb 0 n (omega arith)))
-
-  module _ (b : 0 < n) where
-    pub alloc-one : (w : Bool) → u < n → AllocDecided u n w m ok (u + 1)
-    alloc-one w h = decides {l = []} m (rw (lt-ltb 0 n b, le-leb u n (omega arith), lt-ltb u n h, add-one u))
-
-    pub alloc-over : (w : Bool) → n < u → AllocDecided u n w m einval m
-    alloc-over w h = declines m (rw (lt-ltb 0 n b, lt-leb u n h))
-
-    pub alloc-refused : u ≡ n → AllocDecided u n true m enomem m
-    alloc-refused h = declines m (rw (lt-ltb 0 n b, le-leb u n (omega arith), le-ltb u n (omega arith)))
-
-    pub alloc-waits : u ≡ n → AllocDecided u n false m waits u
-    alloc-waits h = decides {l = []} m (rw (lt-ltb 0 n b, le-leb u n (omega arith), le-ltb u n (omega arith)))
-
-module _ (u m : ℕ) where
-  pub free-none : (w : Bool) → u ≡ 0 → FreeDecided u w m einval m
-  free-none w h = declines m (rw (eq-eqb u 0 h))
-
-  module _ (b : u ≡ 0 → ⊥) where
-    pub free-woke : FreeDecided u true m woke u
-    free-woke = decides {l = []} m (rw (ne_eqb u 0 b))
-
-    pub free_one : FreeDecided u false m ok (u - 1)
-    free_one = decides {l = []} m (rw (ne_eqb u 0 b))
+-- the numbers that formed answers
+pub named : (h l : List ℕ) → Fit h l → {x : Numbers} → Ok x ≡ numbers h l → x ≡ record { blocks = get_or h 0 0; size = get_or h 1 0; used = get_or h 2 0; next = get_or h 3 0 }
+named h l f e = let z = rw (fit_is h l f) at e in cc
 
 module _ (h l : List ℕ) (f : Fit h l) where
   abbrev blocks : ℕ
@@ -79,10 +56,6 @@ module _ (h l : List ℕ) (f : Fit h l) where
         long = (refl, length-set l i v);
       })
 
-  -- alloc
-  pub all-out : used ≡ blocks → Allocs h l enomem h l
-  all-out e = did_no place (led alloc) h l formed (rw (is_leading, le-ltb used blocks (omega arith)))
-
   pub gives : (used ≡ blocks → ⊥) → Allocs h l (pos next) (set (set h 2 (used + 1)) 3 (get_or l next 0 - 1)) (set l next 0)
   gives e =
       let s = f.sound in
@@ -92,32 +65,13 @@ module _ (h l : List ℕ) (f : Fit h l) where
       did_yes place (led alloc) h l {l = []} formed (rw (is_leading, lt-ltb used blocks k, next-link h l s, ← add-one used))
       (writes (used + 1) (get_or l next 0 - 1) next 0 (omega arith) (omega arith) s.inside)
 
-  -- whether a block is out
-  module _ (b : ℕ) where
-    pub no_block : blocks ≤ b → false ≡ (fit h l && is_out (slab h l) b)
-    no_block e = rw (fit_is h l f, le-ltb b blocks e)
-
-    pub by-link : b < blocks → eqb (get_or l b 0) 0 ≡ (fit h l && is_out (slab h l) b)
-    by-link e = rw (fit_is h l f, lt-ltb b blocks e, get_or-take blocks l b 0 e)
-
-  -- free
-  module _ (b : ℕ) (o : is_out (slab h l) b ≡ true) where
-    pub none_out : used ≡ 0 → Frees b h l einval h l
-    none_out e = did_no place (led (free b)) h l formed (rw (is_leading, o, eq-eqb used 0 e))
-
-    pub here : b < get_or h 0 0
-    here = ltb-true b blocks (both (ltb b blocks) _ o).0
-
-    pub takes : (used ≡ 0 → ⊥) → Frees b h l ok (set (set h 2 (used - 1)) 3 b) (set l b (next + 1))
-    takes e =
-        did_yes place (led (free b)) h l {l = []} formed (rw (is_leading, o, ne_eqb used 0 e, ← add-one next))
-        (writes (used - 1) b b (next + 1) (omega (arith, f.sound.few)) here here)
+  pub takes : (b : ℕ) → b < blocks → get_or l b 0 ≡ 0 → (used ≡ 0 → ⊥) → Frees b h l ok (set (set h 2 (used - 1)) 3 b) (set l b (next + 1))
+  takes b k z e =
+      did_yes place (led (free b)) h l {l = []} formed (rw (is_leading, lt-ltb b blocks k, get_or-take blocks l b 0 k, z, ne_eqb used 0 e, ← add-one next))
+      (writes (used - 1) b b (next + 1) (omega (arith, f.sound.few)) k k)
 
 -- a block that is not out, and memory that is not as it should be
 module _ (b : ℕ) (h l : List ℕ) where
-  pub unfit_block : fit h l ≡ false → false ≡ (fit h l && is_out (slab h l) b)
-  unfit_block e = rw e
-
   pub not-out : (fit h l && is_out (slab h l) b) ≡ false → Frees b h l einval h l
   not-out e = go (fit h l) refl e
     where

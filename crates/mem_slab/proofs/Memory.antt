@@ -1,5 +1,5 @@
 -- A slab in memory: what its being fit says, and what a call leaves. Assumes nothing.
-use mathlib.Core.Path.{◌≡◌, refl, sym, ◌∙◌}
+use mathlib.Core.Path.{◌≡◌, refl, sym}
 use mathlib.Core.Bool.{Bool, true, false, cond, ◌&&◌, and-eq-true_iff}
 use mathlib.Core.List.{List}
 use Prim.Native.Nat.{ℕ, ◌≤◌, ◌<◌}
@@ -13,21 +13,13 @@ use Rattle.seq.proofs.Order.{clash}
 use Rattle.thread.specs.Code.{einval}
 use Rattle.store.specs.Store.{Reply, refuse, Did}
 use Rattle.store.proofs.Laws.{did}
+pub use Rattle.mem_slab.specs.Fit.{Sound, Fit}
 use Rattle.mem_slab.specs.Slab.{Slab, sound, leads}
 use Rattle.mem_slab.specs.Post.{slab, place, fit, led, sees}
 
 -- tests
 pub both : (x y : Bool) → (x && y) ≡ true → (x ≡ true) × (y ≡ true)
 both x y = (and-eq-true_iff x y).0
-
--- the numbers of a slab
-pub record Sound (h l : List ℕ) : Type 0 where
-  pub words : 4 ≤ length h
-  pub blocks : 0 < get_or h 0 0
-  pub sized : 0 < get_or h 1 0
-  pub few : get_or h 2 0 ≤ get_or h 0 0
-  pub inside : get_or h 3 0 < get_or h 0 0
-  pub room : get_or h 0 0 ≤ length l
 
 pub sound-is : (h l : List ℕ) → Sound h l → place.formed h l ≡ true
 sound-is h l s =
@@ -59,12 +51,6 @@ is-sound h l k =
       room = long-take (get_or h 0 0) l (leb-true (get_or h 0 0) (length (take (get_or h 0 0) l)) e.1);
     }
 
--- the next block names one, unless all are out
-pub record Fit (h l : List ℕ) : Type 0 where
-  pub sound : Sound h l
-  pub free : get_or h 2 0 < get_or h 0 0 → 0 < get_or l (get_or h 3 0) 0
-  pub named : get_or h 2 0 < get_or h 0 0 → get_or l (get_or h 3 0) 0 ≤ get_or h 0 0
-
 module _ (h l : List ℕ) (s : Sound h l) where
   pub next-link : get_or (take (get_or h 0 0) l) (get_or h 3 0) 0 ≡ get_or l (get_or h 3 0) 0
   next-link = get_or-take (get_or h 0 0) l (get_or h 3 0) 0 s.inside
@@ -90,27 +76,13 @@ module _ (h l : List ℕ) (s : Sound h l) where
 pub fit_is : (h l : List ℕ) → Fit h l → fit h l ≡ true
 fit_is h l f = rw (sound-is h l f.sound) (leads-is h l f.sound (f.free, f.named))
 
--- where the link is tested last
-pub fit-by-link : (h l : List ℕ) (s : Sound h l) → get_or h 2 0 < get_or h 0 0 → 0 < get_or l (get_or h 3 0) 0
-    → leb (get_or l (get_or h 3 0) 0) (get_or h 0 0) ≡ fit h l
-fit-by-link h l s k p =
-    rw (sound-is h l s, lt-ltb (get_or h 2 0) (get_or h 0 0) k, next-link h l s, lt-ltb 0 (get_or l (get_or h 3 0) 0) p)
-
 pub is-fit : (h l : List ℕ) → fit h l ≡ true → Fit h l
 is-fit h l k =
     let p = both (place.formed h l) (leads (slab h l)) k in
     let s = is-sound h l p.0 in
     record { sound = s; free = λ u. (is-led h l s p.1 u).0; named = λ u. (is-led h l s p.1 u).1 }
 
--- a test of what is fit comes first
 module _ (h l : List ℕ) where
-  -- by its answer
-  pub tested : (b : Bool) → b ≡ fit h l → b ≡ true → Fit h l
-  tested b e k = is-fit h l (sym e ∙ k)
-
-  pub tested_no : (b : Bool) → b ≡ fit h l → b ≡ false → fit h l ≡ false
-  tested_no b e k = sym e ∙ k
-
   unguarded : {A : Type 0} (x y : A) → fit h l ≡ false → cond (place.formed h l) (cond (leads (slab h l)) x y) y ≡ y
   unguarded x y k = go (place.formed h l) (leads (slab h l)) k
     where

@@ -6,11 +6,11 @@ use native.Mathlib.Numerals.{add-one}
 use native.Mathlib.Omega.{arith}
 use lib.ListN.{length, get_or, take, drop, set, length-append, length-drop}
 use lib.Seq.{drop-cons, set_at, take_at, drop_at}
-use borrow.Author.Tests.{lt-ltb, le-ltb, le-leb, lt-leb}
+use borrow.Author.Tests.{lt-ltb, le-leb}
 use Rattle.seq.proofs.Words.{spelled, spell}
-use Rattle.thread.specs.Code.{ok, einval}
+use Rattle.thread.specs.Code.{ok}
 use Rattle.store.specs.Store.{Filled}
-use Rattle.store.proofs.Laws.{start-short, start_bad, start-made}
+use Rattle.store.proofs.Laws.{start-made}
 use Rattle.mem_slab.specs.Slab.{up_from, new_links}
 use Rattle.mem_slab.specs.Post.{Starts}
 use Rattle.mem_slab.proofs.Memory.{sound-is}
@@ -26,9 +26,6 @@ up_more k (suc n) x t e = ap (λ (l : List ℕ). k ∷ l) (up_more (suc k) n x t
 -- the links of i blocks are written
 abbrev pub linked : ℕ → List ℕ → List ℕ
 linked i l = up_from 2 i ++ drop i l
-
-pub length_linked : (i : ℕ) (l : List ℕ) → i ≤ length l → length (linked i l) ≡ length l
-length_linked i l k = omega (arith, length-append (up_from 2 i) (drop i l), length_up 2 i, length-drop i l)
 
 module _ (i : ℕ) (l : List ℕ) (k : i < length l) where
   writes_at : (x : ℕ) → set (linked i l) i x ≡ up_from 2 i ++ x ∷ drop (suc i) l
@@ -52,19 +49,7 @@ filled k l l' n e m f =
     rw (f, e) (omega (arith, length-append k (drop n l), length-drop n l), take_at k (drop n l) n e, drop_at k (drop n l) n e)
 
 module _ (z n : ℕ) (h l : List ℕ) where
-  pub short : length h < 4 → Starts z n h l einval h l
-  short k = start-short k
-
   module _ (w : 4 ≤ length h) where
-    pub no_size : z ≡ 0 → Starts z n h l einval h l
-    no_size e = start_bad w (rw (le-ltb 0 z (omega arith)))
-
-    pub no_blocks : 0 < z → n ≡ 0 → Starts z n h l einval h l
-    no_blocks a e = start_bad w (rw (lt-ltb 0 z a, le-ltb 0 n (omega arith)))
-
-    pub no_room : 0 < z → 0 < n → length l < n → Starts z n h l einval h l
-    no_room a b e = start_bad w (rw (lt-ltb 0 z a, lt-ltb 0 n b, lt-leb n (length l) e))
-
     pub starts : 0 < z → 0 < n → n ≤ length l → (l' : List ℕ) → Filled (new_links n) l l' → Starts z n h l ok (set (set (set (set h 0 n) 1 z) 2 0) 3 0) l'
     starts a b c l' f =
         let q = filled (new_links n) l l' n (length-new n b) c f in

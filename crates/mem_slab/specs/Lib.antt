@@ -1,5 +1,7 @@
 pub mod Slab
 pub mod Post
+pub mod Fit
+pub mod Answer
 pub mod Blocks
 pub mod History
 pub mod HandOver

@@ -1,33 +1,19 @@
 -- What each answer of a decision means. Assumes nothing.
-use mathlib.Core.Path.{◌≡◌, refl}
+use mathlib.Core.Path.{◌≡◌}
 use mathlib.Core.Bool.{Bool, true, false}
 use mathlib.Core.List.{[]}
 use Prim.Native.Nat.{ℕ, ◌+◌, ◌-◌, ◌≤◌, ◌<◌}
 use native.Mathlib.Omega.{arith}
 use borrow.Author.Tests.{lt-ltb, le-ltb}
-use lib.IntN.{ℤ}
 use Rattle.thread.specs.Code.{ok, einval, enomsg}
-use Rattle.store.specs.Store.{Reply, accept, refuse}
+use Rattle.store.specs.Store.{accept, refuse}
 use Rattle.ring_buf.specs.Ring.{wrap}
 use Rattle.ring_buf.specs.Bytes.{numbers}
-use Rattle.msgq.specs.Msgq.{Numbers, counts, stored, wakes_reader, is_read, wakes_writer, pends}
-use Rattle.msgq.specs.Post.{sane, put_decision, get_decision, put_front_decision, peek_decision, Settled}
+use Rattle.msgq.specs.Msgq.{counts, stored, wakes_reader, is_read, wakes_writer, pends}
+use Rattle.msgq.specs.Post.{sane, put_decision, get_decision, put_front_decision, peek_decision}
 use Rattle.msgq.proofs.Headers.{within, sane-within}
 
-module _ (y : Reply Numbers) (i n : ℕ) where
-  pub decided_no : {r : ℤ} → y ≡ refuse r → Settled y i n r i n
-  decided_no e = rw e (record { code = refl; idx = refl; used = refl })
-
-  pub decided : {i' n' : ℕ} {r : ℤ} → y ≡ accept (counts i' n') r [] → Settled y i n r i' n'
-  decided e = rw e (record { code = refl; idx = refl; used = refl })
-
 module _ (i n c : ℕ) (reader k : Bool) where
-  pub put_insane : sane i n c reader 0 ≡ false → put_decision i n c reader k ≡ refuse einval
-  put_insane e = rw e
-
-  pub get_insane : sane i n c reader c ≡ false → get_decision i n c reader k ≡ refuse einval
-  get_insane e = rw e
-
   module _ (s : sane i n c reader 0 ≡ true) where
     pub put-refuses : n ≡ c → k ≡ true → put_decision i n c reader k ≡ refuse enomsg
     put-refuses e f = rw (s, le-ltb n c (omega arith), f)
@@ -55,9 +41,6 @@ module _ (i n c : ℕ) (reader k : Bool) where
     get-reads a e f v = rw (s, lt-ltb 0 n (omega arith), f, v)
 
 module _ (t n c : ℕ) where
-  pub lead_insane : numbers c t n ≡ false → put_front_decision t n c ≡ refuse einval
-  lead_insane e = rw e
-
   pub lead-refuses : numbers c t n ≡ true → n ≡ c → put_front_decision t n c ≡ refuse enomsg
   lead-refuses s e = rw (s, le-ltb n c (omega arith))
 

@@ -18,7 +18,7 @@ use Rattle.msgq.specs.Messages.{slots}
 use Rattle.msgq.specs.Msgq.{Msgq, Numbers, put, put_front, get, peek, purge}
 use Rattle.msgq.specs.Post.{messages, new, may, put_decision, get_decision, put_front_decision, peek_decision, Settled}
 use Rattle.msgq.specs.Determined.{Determined}
-use Rattle.msgq.proofs.Slots.{length-slots}
+use Rattle.msgq.proofs.Messages.{length-slots}
 use Rattle.msgq.proofs.Headers.{from-sound}
 use Rattle.msgq.proofs.Answers.{hold}
 

@@ -19,7 +19,7 @@ use Rattle.msgq.specs.Messages.{slots}
 use Rattle.msgq.specs.Msgq.{Msgq}
 use Rattle.msgq.specs.Post.{Starts, room, messages, new}
 use Rattle.msgq.specs.History.{Call, putting, putting_front, getting, peeking, purging, does, line, sent, simple, Good, Promise}
-use Rattle.msgq.proofs.Slots.{length-slots}
+use Rattle.msgq.proofs.Messages.{length-slots}
 use Rattle.msgq.proofs.Steps.{Holds, step, holds-next, refused-stays}
 
 -- a new queue

@@ -1,4 +1,4 @@
-pub mod Slots
+pub mod Messages
 pub mod Headers
 pub mod Places
 pub mod Answers

@@ -14,7 +14,7 @@ use Rattle.msgq.specs.Msgq.{used}
 use Rattle.msgq.specs.Post.{sound, held}
 use Rattle.msgq.specs.History.{Good}
 use Rattle.msgq.specs.Upstream.{Inv, InvOf, Housed, InSlot}
-use Rattle.msgq.proofs.Slots.{all_slots}
+use Rattle.msgq.proofs.Messages.{all_slots}
 use Rattle.msgq.proofs.Headers.{is-sound, from-sound}
 use Rattle.msgq.proofs.Answers.{hold, spare, slot-below, zero-behind, placed}
 use Rattle.msgq.proofs.Goods.{all_append}

@@ -1,25 +1,18 @@
 -- The words that a call leaves, and what they are then. Assumes nothing.
 use mathlib.Core.Path.{◌≡◌, refl, ap}
-use mathlib.Core.Bool.{true, false}
 use mathlib.Core.List.{List, ◌∷◌}
 use Prim.Native.Nat.{ℕ, ◌*◌, ◌≤◌, ◌<◌}
 use native.Mathlib.Omega.{arith}
-use borrow.Author.Tests.{lt-ltb, le-ltb}
 use lib.ListN.{length, drop, get_or, set, length-drop}
 use Rattle.seq.proofs.Words.{by-words}
-use Rattle.thread.specs.Code.{ok, einval}
 use Rattle.store.specs.Store.{Becomes}
-use Rattle.store.proofs.Laws.{start-short, start_bad, start-made}
 use Rattle.ring_buf.specs.Ring.{Ring, ring}
 use Rattle.msgq.specs.Messages.{slots}
-use Rattle.msgq.specs.Post.{Starts, room, messages}
-use Rattle.msgq.proofs.Headers.{Room, roomy, is-sound}
+use Rattle.msgq.specs.Post.{room, messages}
+use Rattle.msgq.proofs.Headers.{Room, is-sound}
 
 -- the words that are written
 module _ (h : List ℕ) (k : 4 ≤ length h) where
-  pub set_all : (c z : ℕ) → set (set (set (set h 0 c) 1 0) 2 0) 3 z ≡ c ∷ 0 ∷ 0 ∷ z ∷ drop 4 h
-  set_all c z = by-words 4 (λ (h : List ℕ). set (set (set (set h 0 c) 1 0) 2 0) 3 z ≡ c ∷ 0 ∷ 0 ∷ z ∷ drop 4 h) (λ c t n z rest. refl) h k
-
   pub set-used : (n' : ℕ) → set h 2 n' ≡ get_or h 0 0 ∷ get_or h 1 0 ∷ n' ∷ get_or h 3 0 ∷ drop 4 h
   set-used n' = by-words 4 (λ (h : List ℕ). set h 2 n' ≡ get_or h 0 0 ∷ get_or h 1 0 ∷ n' ∷ get_or h 3 0 ∷ drop 4 h) (λ c t n z rest. refl) h k
 
@@ -40,20 +33,3 @@ becomes h b h' b' c t n z k e f g room l d o =
       rest = d;
       long = (simp length-drop (omega arith), l);
     })
-
--- a new queue
-module _ (h b : List ℕ) (z c : ℕ) where
-  pub init-short : length h < 4 → Starts z c h b einval h
-  init-short f = start-short f
-
-  module _ (k : 4 ≤ length h) where
-    pub init-none : c ≡ 0 → Starts z c h b einval h
-    init-none e = start_bad k (rw (le-ltb 0 c (omega arith)))
-
-    pub init_bad : 0 < c → room z c b ≡ false → Starts z c h b einval h
-    init_bad f e = start_bad k (rw (lt-ltb 0 c f) e)
-
-    pub init-made : 0 < c → room z c b ≡ true → Starts z c h b ok (set (set (set (set h 0 c) 1 0) 2 0) 3 z)
-    init-made f e =
-        start-made k (rw (lt-ltb 0 c f) e)
-        (becomes h b (set (set (set (set h 0 c) 1 0) 2 0) 3 z) b c 0 0 z k (set_all h k c z) f (omega arith) (roomy z c b e) refl refl refl)

@@ -1,6 +1,8 @@
 pub mod Messages
 pub mod Msgq
 pub mod Post
+pub mod Decision
+pub mod Numbers
 pub mod History
 pub mod Agreement
 pub mod HandOver

@@ -1,36 +1,39 @@
 -- How each answer of a function meets the mutex's definition. Assumes nothing.
 use mathlib.Core.Path.{◌≡◌, refl, sym, ap, ◌∙◌}
-use mathlib.Core.Bool.{Bool, true, false, cond, not}
+use mathlib.Core.Bool.{Bool, true, false, cond}
 use mathlib.Core.List.{List, [], ◌∷◌, map}
-use Prim.Native.Nat.{ℕ, zero, suc, ◌+◌, ◌-◌, ◌≤◌, ◌<◌}
-use native.Mathlib.Numerals.{add-one}
+use Prim.Native.Nat.{ℕ, zero, suc, ◌≤◌, ◌<◌}
 use native.Mathlib.Omega.{arith}
 use lib.Dec.{ltb, eqb}
 use lib.IntN.{ℤ, pos, negsuc}
 use lib.Signed.{mag}
 use lib.ListN.{length, get_or, set, drop}
-use borrow.Author.Tests.{le-leb, lt-leb, lt-ltb, le-ltb, ltb-true, ltb-false, eq-eqb, ne_eqb, eqb-true}
+use lib.Seq.{set-get_or}
+use borrow.Author.Tests.{le-leb, lt-ltb, le-ltb, ltb-true, ltb-false, eq-eqb, ne_eqb, eqb-true}
 use Rattle.seq.specs.List.{any}
+use Rattle.seq.proofs.Back.{back-length}
 use Rattle.seq.proofs.Words.{spell}
-use Rattle.seq.proofs.Order.{clash}
-use Rattle.thread.specs.Code.{ok, eperm, enoent, ebusy, einval, edeadlk, eoverflow}
+use Rattle.thread.specs.Code.{ok, eperm, ebusy, einval, edeadlk, eoverflow, code}
+use Rattle.thread.specs.declared.Errno.{Errno}
+use Rattle.thread.specs.declared.Errno.TheVariants as errno
 use Rattle.thread.specs.Caller.{caller_code}
 use Rattle.store.specs.Store as store
 use Rattle.store.specs.Store.{refuse, accept, answer, out, reply, Did, Hands}
-use Rattle.store.proofs.Laws.{refuses, refuses-word, hands_bad, did_alike}
-use Rattle.wait_queue.specs.Queue.{ident, woken, waiting, roomy, holds}
+use Rattle.store.proofs.Laws.{no_code, not-one, hands_bad, did_alike, answers, kept_bad, found}
+use Rattle.wait_queue.specs.Queue.{ident, woken, waiting, roomy}
 use Rattle.wait_queue.specs.Turn.{wait_queue, waits, unpend_first}
-use Rattle.wait_queue.specs.Post.{Pends, UnpendsFirst}
-use Rattle.wait_queue.specs.Post as queue
-use Rattle.kind.specs.Verdict.{up_to, keep, wake, Verdict, deny, allow}
+use Rattle.wait_queue.specs.Post.{Enters, UnpendsFirst}
+use Rattle.wait_queue.proofs.Answers.{pend_parks}
+use Rattle.kind.specs.Verdict.{Verdict, deny}
 use Rattle.kind.specs.Kind.{plain}
 use Rattle.kind.specs.Object as object
-use Rattle.kind.specs.Object.{Object, Caller, named, carried, Opened, sized, sane}
-use Rattle.kind.proofs.Memory.{Housed, Header, is-on, renumbered, turned, is-sane, unsized, sized-words, misnumbered, idle-sane, roomy-sane}
-use Rattle.kind.proofs.Answers.{verdict, call_no, call_barred, call-is, call-denied, keeps, waits-now, unseen, seen, opens-short, opens-made}
-use Rattle.mutex.specs.Mutex.{nobody, Mutex, lock, try_lock, unlock, release, formed, max_count, released, unlocked, transferred, free, taken, counting, passes, mutex_kind}
-use Rattle.mutex.specs.Post.{owner_in, layout, place, try_lock_out, unlock_out, lock_out, pass_out, release_out, is_locked, owner_id, apart, ReleaseDecided, Gets, SaysLocked, GetsOwner, Audits, unlock_deed, LockDecided, UnlockDecided}
+use Rattle.kind.specs.Object.{Object, Caller, named, carried, Opened, sane}
+use Rattle.kind.proofs.Memory.{Housed, Header, is-on, renumbered, turned, is-sane}
+use Rattle.kind.proofs.Answers.{verdict, call_no, call_barred, call-is, waits-now, unseen, seen, opens-short, opens-made}
+use Rattle.mutex.specs.Mutex.{nobody, Mutex, lock, unlock, release, formed, max_count, released, unlocked, transferred, free, taken, counting, passes, mutex_kind}
+use Rattle.mutex.specs.Post.{owner_in, layout, place, unlock_out, lock_out, pass_out, release_out, ReleaseDecided, Gets, CountsWaiters, Written, unlock_deed, LockDecided, UnlockDecided}
 use Rattle.mutex.proofs.Law.{mk, free-fine, free-empty}
+use Rattle.mutex.proofs.Written.{now, unwritten, frees, joins, passes as passed_on}
 
 -- on plain numbers
 module _ (c : ℕ) where
@@ -89,9 +92,6 @@ module _ (c : ℕ) where
   unlock-one k l i j (x ∷ q) n = rw (lt-ltb 0 c k, eq-eqb i i refl, le-ltb 1 c l)
 
 module _ (h : List ℕ) (k : 4 ≤ length h) where
-  seized : (i : ℕ) → Header layout h (taken i) (get_or h 3 0) (set (set (set h 0 1) 1 i) 2 1)
-  seized i = rw (spell 4 h k) (record { num = refl; len = refl; beside = refl; long = refl })
-
   counted : (c : ℕ) → Header layout h (counting c (layout.num h)) (get_or h 3 0) (set h 2 c)
   counted c = rw (spell 4 h k) (record { num = refl; len = refl; beside = refl; long = refl })
 
@@ -135,15 +135,6 @@ module _ (f o c n : ℕ) (s : formed (mk (owner_in f o) c) (ltb 0 n) ≡ true) w
   alone z = ltb-false 0 n (free-empty c (ltb 0 n) (rw z at s)).1
 
 module _ (h e : List ℕ) where
-  pub tried_no : (i : ℕ) → sane mutex_kind layout h e ≡ false → Did place (try_lock_out i) h e einval h e
-  tried_no i s = refuses place (try_lock_out i) h e (call_no mutex_kind layout plain (named i) try_lock h e s)
-
-  pub lock_no : (i p st : ℕ) → sane mutex_kind layout h e ≡ false → Did place (lock_out i p st) h e einval h e
-  lock_no i p st s = refuses place (lock_out i p st) h e (call_no mutex_kind layout plain (object.thread i p st) lock h e s)
-
-  pub unlock_no : (i w : ℕ) → sane mutex_kind layout h e ≡ false → Hands place (unlock_out i) h e w einval h w
-  unlock_no i w s = refuses-word place (unlock_out i) h e (call_no mutex_kind layout plain (named i) unlock h e s) w
-
   pub release_no : (i p st : ℕ) → sane mutex_kind layout h e ≡ false → ReleaseDecided i p st h e einval
   release_no i p st s = ap answer (sym (call_no mutex_kind layout plain (object.thread i p st) release h e s))
 
@@ -166,44 +157,6 @@ module _ (h e : List ℕ) where
     pub flag-held : ltb 0 (get_or h 0 0) ≡ true → 0 < get_or h 2 0
     flag-held k = counts (get_or h 0 0) (get_or h 1 0) (get_or h 2 0) (get_or h 3 0) fine k
 
-    -- try_lock
-    pub tried-free : (i : ℕ) → get_or h 2 0 ≡ 0 → Did place (try_lock_out i) h e ok (set (set (set h 0 1) 1 i) 2 1) e
-    tried-free i k =
-        (keeps mutex_kind layout plain (named i) try_lock h e s 0 refl (taken i) ok (set (set (set h 0 1) 1 i) 2 1) 0 (rw (free-flag k)) (seized h words i)).0
-
-    pub tried_other : (i : ℕ) → 0 < get_or h 2 0 → (get_or h 1 0 ≡ i → ⊥) → Did place (try_lock_out i) h e ebusy h e
-    tried_other i k n =
-        refuses place (try_lock_out i) h e
-        (call-denied mutex_kind layout plain (named i) try_lock h e s 0 refl ebusy (rw (held-flag k, ne_eqb (get_or h 1 0) i n)))
-
-    pub tried-over : (i : ℕ) → get_or h 1 0 ≡ i → get_or h 2 0 ≡ max_count → Did place (try_lock_out i) h e eoverflow h e
-    tried-over i o k =
-        let z : max_count ≤ get_or h 2 0 = omega arith in
-        refuses place (try_lock_out i) h e
-        (call-denied mutex_kind layout plain (named i) try_lock h e s 0 refl eoverflow
-        (rw (held-flag (omega arith), eq-eqb (get_or h 1 0) i o, le-ltb (get_or h 2 0) max_count z)))
-
-    pub tried-again : (i : ℕ) → get_or h 1 0 ≡ i → 0 < get_or h 2 0 → get_or h 2 0 < max_count → Did place (try_lock_out i) h e ok (set h 2 (get_or h 2 0 + 1)) e
-    tried-again i o k m =
-        rw add-one
-        (keeps mutex_kind layout plain (named i) try_lock h e s 0 refl (counting (suc (get_or h 2 0)) (layout.num h)) ok (set h 2 (suc (get_or h 2 0))) 0
-        (rw (held-flag k, eq-eqb (get_or h 1 0) i o, lt-ltb (get_or h 2 0) max_count m)) (counted h words (suc (get_or h 2 0)))
-        ).0
-
-    -- unlock
-    pub unlock-free : (i w : ℕ) → get_or h 2 0 ≡ 0 → Hands place (unlock_out i) h e w einval h w
-    unlock-free i w k = refuses-word place (unlock_out i) h e (call-denied mutex_kind layout plain (named i) unlock h e s 0 refl einval (rw (free-flag k))) w
-
-    pub unlock-other : (i w : ℕ) → 0 < get_or h 2 0 → (get_or h 1 0 ≡ i → ⊥) → Hands place (unlock_out i) h e w eperm h w
-    unlock-other i w k n =
-        refuses-word place (unlock_out i) h e
-        (call-denied mutex_kind layout plain (named i) unlock h e s 0 refl eperm (rw (held-flag k, ne_eqb (get_or h 1 0) i n))) w
-
-    pub unlock-nested : (i w : ℕ) → get_or h 1 0 ≡ i → 1 < get_or h 2 0 → Hands place (unlock_out i) h e w released (set h 2 (get_or h 2 0 - 1)) w
-    unlock-nested i w o k =
-        keeps mutex_kind layout plain (named i) unlock h e s 0 refl (counting (get_or h 2 0 - 1) (layout.num h)) released (set h 2 (get_or h 2 0 - 1)) w
-        (rw (held-flag (omega arith), eq-eqb (get_or h 1 0) i o, lt-ltb 1 (get_or h 2 0) k)) (counted h words (get_or h 2 0 - 1))
-
     -- the last unlock is what passes it on
     pub unlock-passes : (i w : ℕ) → get_or h 1 0 ≡ i → 0 < get_or h 2 0 → get_or h 2 0 ≤ 1 → (r : ℤ) (h' : List ℕ) (w' : ℕ)
         → Hands place pass_out h e w r h' w' → Hands place (unlock_out i) h e w r h' w'
@@ -217,28 +170,14 @@ module _ (h e : List ℕ) where
 
     -- lock_blocking
     module _ (i p st : ℕ) where
-      pub lock-caller : (c : ℕ) → caller_code p st ≡ negsuc c → Did place (lock_out i p st) h e (negsuc c) h e
-      lock-caller c z = refuses place (lock_out i p st) h e (call_barred mutex_kind layout plain (object.thread i p st) lock h e s c z)
-
-      pub lock-free : (c : ℕ) → caller_code p st ≡ pos c → get_or h 2 0 ≡ 0 → Did place (lock_out i p st) h e ok (set (set (set h 0 1) 1 i) 2 1) e
-      lock-free c z k =
-          (keeps mutex_kind layout plain (object.thread i p st) lock h e s c z (taken i) ok (set (set (set h 0 1) 1 i) 2 1) 0
-          (rw (free-flag k)) (seized h words i)).0
-
-      module _ (c : ℕ) (z : caller_code p st ≡ pos c) (o : get_or h 1 0 ≡ i) where
-        pub lock-full : get_or h 2 0 ≡ max_count → Did place (lock_out i p st) h e eoverflow h e
-        lock-full k =
-            let y : max_count ≤ get_or h 2 0 = omega arith in
-            refuses place (lock_out i p st) h e
-            (call-denied mutex_kind layout plain (object.thread i p st) lock h e s c z eoverflow
-            (rw (held-flag (omega arith), eq-eqb (get_or h 1 0) i o, le-ltb (get_or h 2 0) max_count y)))
-
-        pub lock-again : 0 < get_or h 2 0 → get_or h 2 0 < max_count → Did place (lock_out i p st) h e ok (set h 2 (get_or h 2 0 + 1)) e
-        lock-again k m =
-            rw add-one
-            (keeps mutex_kind layout plain (object.thread i p st) lock h e s c z (counting (suc (get_or h 2 0)) (layout.num h)) ok (set h 2 (suc (get_or h 2 0))) 0
-            (rw (held-flag k, eq-eqb (get_or h 1 0) i o, lt-ltb (get_or h 2 0) max_count m)) (counted h words (suc (get_or h 2 0)))
-            ).0
+      -- the thread waits, or the queue refuses it
+      pub lock-waits : (c : ℕ) → caller_code p st ≡ pos c → 0 < get_or h 2 0 → (get_or h 1 0 ≡ i → ⊥) → (r : ℤ) (m : ℕ) (e' : List ℕ)
+          → Enters i p (get_or h 3 0) e r m e' → Did place (lock_out i p st) h e r (set h 3 m) e' × Written h (set h 3 m)
+      lock-waits c z k n r m e' d =
+          let q = pend_parks (get_or h 3 0) e i p st c z r m e' d in (
+            waits-now mutex_kind layout plain i p st lock h e tt waits r m e' words fine (rw (held-flag k, ne_eqb (get_or h 1 0) i n)) q (fewer h words m),
+            joins h words e r m e' i p st q,
+          )
 
       -- release_decide
       pub release-caller : (c : ℕ) → caller_code p st ≡ negsuc c → ReleaseDecided i p st h e (negsuc c)
@@ -262,16 +201,6 @@ module _ (h e : List ℕ) where
           last : (d : Verdict Mutex (Unit {0})) → passes (map ident (waiting e (get_or h 3 0))) ≡ d
               → reply place (release_out i p st) h e ≡ carried (object.thread i p st) d (place.object h e)
           last d y = outcome d (rw (held-flag k, eq-eqb (get_or h 1 0) i o, le-ltb 1 (get_or h 2 0) l) y)
-
-          pub release-last : get_or h 3 0 ≡ 0 → unlocked ≡ answer (reply place (release_out i p st) h e)
-          release-last y = rw (last (allow free keep unlocked) (rw y)) refl
-
-          pub release-passed : 0 < get_or h 3 0 → transferred ≡ answer (reply place (release_out i p st) h e)
-          release-passed y = go (get_or h 3 0) refl y
-            where
-              go : (n : ℕ) → get_or h 3 0 ≡ n → 0 < n → transferred ≡ answer (reply place (release_out i p st) h e)
-              go zero x b = absurd (omega arith)
-              go (suc n) x b = rw (last (allow (taken (ident (get_or e n 0))) (wake (up_to 1) (λ t. ok)) transferred) (rw x)) refl
 
       -- what release allows is the last unlock of one that has one lock
       passes_too : (c k : ℕ) → caller_code p st ≡ pos c → answer (reply place (release_out i p st) h e) ≡ pos k
@@ -300,114 +229,62 @@ module _ (h e : List ℕ) where
     pub got : (g : Object Mutex → ℤ) → Gets g h e (g (place.object h e))
     got g = seen mutex_kind layout g h e s
 
-    module _ (k : 0 < get_or h 0 0) where
-      pub got-locked : SaysLocked h e (pos 1)
-      got-locked = let z : is_locked (layout.num h) ≡ pos 1 = rw (lt-ltb 0 (get_or h 0 0) k) in sym z ∙ got (λ m. is_locked m.num)
+    pub got-waiters : CountsWaiters h e (pos (get_or h 3 0))
+    got-waiters = ap pos (sym (back-length e (get_or h 3 0))) ∙ got (λ m. pos (length m.queue))
 
-      pub got-owner : GetsOwner h e (pos (get_or h 1 0))
-      got-owner = let z : owner_id (layout.num h).owner ≡ pos (get_or h 1 0) = rw (lt-ltb 0 (get_or h 0 0) k) in sym z ∙ got (λ m. owner_id m.num.owner)
+-- a refusal is below 0
+pub below : (x : Errno) → (k : ℕ) × (code x ≡ negsuc k)
+below errno.EPERM = (0, refl)
+below errno.ENOENT = (1, refl)
+below errno.EBADF = (8, refl)
+below errno.EAGAIN = (10, refl)
+below errno.ENOMEM = (11, refl)
+below errno.EBUSY = (15, refl)
+below errno.EINVAL = (21, refl)
+below errno.ENOSPC = (27, refl)
+below errno.EPIPE = (31, refl)
+below errno.ENOMSG = (34, refl)
+below errno.EDEADLK = (44, refl)
+below errno.EADDRINUSE = (111, refl)
+below errno.EALREADY = (113, refl)
+below errno.ETIMEDOUT = (115, refl)
+below errno.EOVERFLOW = (138, refl)
+below errno.ECANCELED = (139, refl)
 
-    module _ (k : get_or h 0 0 ≡ 0) where
-      pub got-free : SaysLocked h e (pos 0)
-      got-free = let z : is_locked (layout.num h) ≡ pos 0 = rw k in sym z ∙ got (λ m. is_locked m.num)
+-- who waits, by what the queue answers
+module _ (e : List ℕ) where
+  pub some : (m : ℕ) → pos 1 ≡ answer (unpend_first ok (waiting e m)) → 0 < m
+  some zero a = not-one (sym a)
+  some (suc m) a = omega arith
 
-      pub got-nobody : GetsOwner h e enoent
-      got-nobody = let z : owner_id (layout.num h).owner ≡ enoent = rw k in sym z ∙ got (λ m. owner_id m.num.owner)
+  pub none : (m : ℕ) → pos 0 ≡ answer (unpend_first ok (waiting e m)) → m ≡ 0
+  none zero a = refl
+  none (suc m) a = not-one a
 
-  -- audit
-  pub audit_no : sane mutex_kind layout h e ≡ false → Audits h e false
-  audit_no s = record { sound = λ z. clash (sym z); complete = λ w. clash (sym w.0 ∙ s) }
+  allows : (m j : ℕ) → answer (unpend_first ok (waiting e m)) ≡ negsuc j → ⊥
+  allows zero j a = no_code a
+  allows (suc m) j a = no_code a
 
-  module _ (s : sane mutex_kind layout h e ≡ true) where
-    pub audit_bad : queue.Audits (get_or h 3 0) e false → Audits h e false
-    audit_bad a = record { sound = λ z. clash (sym z); complete = λ w. a.complete ((is-sane mutex_kind layout h e s).housed.room, w.1) }
-
-    module _ (a : queue.Audits (get_or h 3 0) e true) (r : Bool) (g : apart (layout.num h).owner (waiting e (get_or h 3 0)) ≡ r) where
-      pub audit-owner : Audits h e r
-      audit-owner = record { sound = λ z. (s, (a.sound refl).1, g ∙ z); complete = λ w. sym g ∙ w.2 }
-
-    pub free-apart : get_or h 0 0 ≡ 0 → apart (layout.num h).owner (waiting e (get_or h 3 0)) ≡ true
-    free-apart z = rw z
-
-    pub owner-apart : (b : Bool) → 0 < get_or h 0 0 → b ≡ cond (roomy (get_or h 3 0) e) (holds (get_or h 1 0) (waiting e (get_or h 3 0))) false
-        → apart (layout.num h).owner (waiting e (get_or h 3 0)) ≡ not b
-    owner-apart b k z = rw (lt-ltb 0 (get_or h 0 0) k, z, (is-sane mutex_kind layout h e s).housed.room) (go (holds (get_or h 1 0) (waiting e (get_or h 3 0))))
-      where
-        go : (c : Bool) → cond c false true ≡ not c
-        go true = refl
-        go false = refl
-
--- what the words show one by one
-module _ (h e : List ℕ) where
-  pub small_no : sized 4 h e ≡ false → sane mutex_kind layout h e ≡ false
-  small_no z = unsized mutex_kind layout h e z
-
-  module _ (z : sized 4 h e ≡ true) where
-    pub its_words : 4 ≤ length h
-    its_words = sized-words mutex_kind layout h e z
-
-    -- an owner without a lock, a lock without an owner, somebody who waits for a free one
-    pub lockless_no : 0 < get_or h 0 0 → get_or h 2 0 ≡ 0 → sane mutex_kind layout h e ≡ false
-    lockless_no f c = misnumbered mutex_kind layout h e z (rw (lt-ltb 0 (get_or h 0 0) f, c) refl)
-
-    pub ownerless_no : get_or h 0 0 ≡ 0 → 0 < get_or h 2 0 → sane mutex_kind layout h e ≡ false
-    ownerless_no f c = misnumbered mutex_kind layout h e z (rw (f, ne_eqb (get_or h 2 0) 0 (λ y. absurd (omega arith))) refl)
-
-    pub awaited_no : get_or h 0 0 ≡ 0 → get_or h 2 0 ≡ 0 → 0 < get_or h 3 0 → sane mutex_kind layout h e ≡ false
-    awaited_no f c n = misnumbered mutex_kind layout h e z (rw (f, c, lt-ltb 0 (get_or h 3 0) n) refl)
-
-    pub crowded_no : roomy (get_or h 3 0) e ≡ false → sane mutex_kind layout h e ≡ false
-    crowded_no r = rw (le-leb 4 (length h) its_words, r)
-
-    pub free_yes : get_or h 0 0 ≡ 0 → get_or h 2 0 ≡ 0 → get_or h 3 0 ≡ 0 → sane mutex_kind layout h e ≡ true
-    free_yes f c n = idle-sane mutex_kind layout h e z n (rw (f, c) refl)
-
-    pub held_yes : 0 < get_or h 0 0 → 0 < get_or h 2 0 → roomy (get_or h 3 0) e ≡ true → sane mutex_kind layout h e ≡ true
-    held_yes f c r = roomy-sane mutex_kind layout h e z r (rw (lt-ltb 0 (get_or h 0 0) f) (lt-ltb 0 (get_or h 2 0) c))
-
-    pub calm_yes : 0 < get_or h 0 0 → 0 < get_or h 2 0 → get_or h 3 0 ≡ 0 → sane mutex_kind layout h e ≡ true
-    calm_yes f c n = idle-sane mutex_kind layout h e z n (rw (lt-ltb 0 (get_or h 0 0) f) (lt-ltb 0 (get_or h 2 0) c))
-
-    -- the thread waits, whatever the queue says
-    pub lock-waits : (i p st : ℕ) → 0 < get_or h 0 0 → 0 < get_or h 2 0 → (get_or h 1 0 ≡ i → ⊥) → (r : ℤ) (m : ℕ) (e' : List ℕ) → Pends i p st (get_or h 3 0) e r m e'
-        → Did place (lock_out i p st) h e r (set h 3 m) e'
-    lock-waits i p st f c n r m e' d =
-        waits-now mutex_kind layout plain i p st lock h e tt waits r m e' its_words (rw (lt-ltb 0 (get_or h 0 0) f) (lt-ltb 0 (get_or h 2 0) c))
-        (rw (lt-ltb 0 (get_or h 0 0) f, ne_eqb (get_or h 1 0) i n)) d (fewer h its_words m)
-
--- no lock: nobody unlocks, whatever else is wrong
-pub unlock_lockless : (h e : List ℕ) (i w : ℕ) → get_or h 2 0 ≡ 0 → Hands place (unlock_out i) h e w einval h w
-unlock_lockless h e i w c = go (sane mutex_kind layout h e) refl
-  where
-    go : (b : Bool) → sane mutex_kind layout h e ≡ b → Hands place (unlock_out i) h e w einval h w
-    go true s = unlock-free h e s i w c
-    go false s = unlock_no h e i w s
+  pub emptied : (n m : ℕ) → m ≡ 0 → n ≡ length (store.left (unpend_first ok (waiting e m)) (waiting e m)) → n ≡ m
+  emptied n zero z l = l
+  emptied n (suc m) z l = absurd (omega arith)
 
 -- the last unlock alone
 module _ (h e : List ℕ) (w : ℕ) where
-  pub pass-short : length h < 4 → Hands place pass_out h e w einval h w
-  pass-short k = hands_bad place pass_out h e w (rw (lt-leb 4 (length h) k))
-
   module _ (k : 4 ≤ length h) where
-    pub pass_no : roomy (get_or h 3 0) e ≡ false → Hands place pass_out h e w einval h w
+    pass_no : roomy (get_or h 3 0) e ≡ false → Hands place pass_out h e w einval h w
     pass_no r = hands_bad place pass_out h e w (rw (le-leb 4 (length h) k, r))
 
     module _ (r : roomy (get_or h 3 0) e ≡ true) where
       there : Housed layout h e
       there = record { words = k; room = r }
 
-      pub pass-free : get_or h 3 0 ≡ 0 → Hands place pass_out h e w unlocked (set (set h 0 0) 2 0) w
+      pass-free : get_or h 3 0 ≡ 0 → Hands place pass_out h e w unlocked (set (set h 0 0) 2 0) w
       pass-free z =
           let o : pass_out (place.object h e) ≡ accept (record { num = free; queue = waiting e (get_or h 3 0) }) unlocked [] = rw z in
           (renumbered layout pass_out h e unlocked free [] (set (set h 0 0) 2 0) there o (freed h k), rw (is-on layout pass_out h e there ∙ o) refl)
 
-      -- whom it tells does not depend on what stood there
-      pub retold : (m v w' : ℕ) → 0 < m → roomy m e ≡ true → w' ≡ store.first v (out (reply wait_queue (unpend_first ok) (m ∷ []) e))
-          → w' ≡ store.first w (out (reply wait_queue (unpend_first ok) (m ∷ []) e))
-      retold zero v w' z q t = absurd (omega arith)
-      retold (suc m) v w' z q t = let y : w' ≡ woken ok (get_or e m 0) = rw q at t in rw q y
-
-      pub pass-first : (a : ℤ) (n w' : ℕ) → 0 < get_or h 3 0 → UnpendsFirst ok (get_or h 3 0) e w a n w'
+      pass-first : (a : ℤ) (n w' : ℕ) → 0 < get_or h 3 0 → UnpendsFirst ok (get_or h 3 0) e w a n w'
           → Hands place pass_out h e w transferred (set (set (set (set h 3 n) 0 1) 1 (ident w')) 2 1) w'
       pass-first a n w' z d =
           let o = first (get_or h 3 0) w' z r d.1 in (
@@ -425,6 +302,35 @@ module _ (h e : List ℕ) (w : ℕ) where
               let y : w' ≡ woken ok (get_or e m 0) = rw q at t in
               let x : ident (woken ok (get_or e m 0)) ≡ ident (get_or e m 0) = omega arith in
               rw (y, x) (refl, refl)
+
+    module _ (n w' : ℕ) where
+      pub pass-some : UnpendsFirst ok (get_or h 3 0) e w (pos 1) n w'
+          → Hands place pass_out h e w transferred (set (set (set (set h 3 n) 0 1) 1 (ident w')) 2 1) w'
+          × Written h (set (set (set (set h 3 n) 0 1) 1 (ident w')) 2 1)
+      pass-some d =
+          let r = found wait_queue (unpend_first ok) (get_or h 3 0 ∷ []) e d.0 in
+          let b = some e (get_or h 3 0) (answers wait_queue (unpend_first ok) (get_or h 3 0 ∷ []) e d.0 r) in
+          (pass-first r (pos 1) n w' b d, passed_on h k e (pos 1) n e (ident w') r b d.0)
+
+      pub pass-none : UnpendsFirst ok (get_or h 3 0) e w (pos 0) n w'
+          → Hands place pass_out h e w unlocked (set (set (set h 3 n) 0 0) 2 0) w × Written h (set (set (set h 3 n) 0 0) 2 0)
+      pass-none d =
+          let r = found wait_queue (unpend_first ok) (get_or h 3 0 ∷ []) e d.0 in
+          let b = none e (get_or h 3 0) (answers wait_queue (unpend_first ok) (get_or h 3 0 ∷ []) e d.0 r) in
+          let z = emptied e n (get_or h 3 0) b (now (get_or h 3 0) e (pos 0) n e (unpend_first ok) r d.0) in
+          rw (z, set-get_or h 3 0) (pass-free r b, frees h k)
+
+      pub pass-bad : (x : Errno) → UnpendsFirst ok (get_or h 3 0) e w (code x) n w'
+          → Hands place pass_out h e w (code x) (set h 3 n) w × Written h (set h 3 n)
+      pass-bad x d = go (roomy (get_or h 3 0) e) refl
+        where
+          go : (b : Bool) → roomy (get_or h 3 0) e ≡ b → Hands place pass_out h e w (code x) (set h 3 n) w × Written h (set h 3 n)
+          go true r =
+              absurd (allows e (get_or h 3 0) (below x).0 (sym (answers wait_queue (unpend_first ok) (get_or h 3 0 ∷ []) e d.0 r) ∙ (below x).1))
+          go false r =
+              let y = kept_bad wait_queue (unpend_first ok) (get_or h 3 0 ∷ []) e d.0 r in
+              let z : n ≡ get_or h 3 0 = ap (λ (l : List ℕ). get_or l 0 0) y.1 in
+              rw (z, set-get_or h 3 0, y.0) (pass_no r, unwritten h)
 
 -- a release that is allowed
 module _ (h e : List ℕ) (i p st k : ℕ) (y : answer (reply place (release_out i p st) h e) ≡ pos k) where

@@ -22,7 +22,7 @@ use Rattle.seq.proofs.Words.{spell}
 
 -- a queue does not become shorter by who joins it, and does by who is woken
 module _ (n : ℕ) (e : List ℕ) (r : ℤ) (m : ℕ) (e' : List ℕ) where
-  now : (f : List ℕ → Reply (List ℕ)) → roomy n e ≡ true → Did wait_queue f (n ∷ []) e r (m ∷ []) e' → m ≡ length (left (f (waiting e n)) (waiting e n))
+  pub now : (f : List ℕ → Reply (List ℕ)) → roomy n e ≡ true → Did wait_queue f (n ∷ []) e r (m ∷ []) e' → m ≡ length (left (f (waiting e n)) (waiting e n))
   now f o d = sym (back-length e' m) ∙ ap length (done wait_queue f (n ∷ []) e o d).1
 
   pub no_shorter : (i p st : ℕ) → Pends i p st n e r m e' → n ≤ m

@@ -1,364 +1,271 @@
 // The mutex with its wait queue, in place: Gale's mutex.rs. h: whether it is owned, the owner, its locks, how many wait; e: the queue of those.
+// They stay two slices: all but lock_blocking take e shared, and so promise by its type that it stays; one struct would lend both alike.
 #![tactic(auto)]
 
-ghost use Rattle.std.specs.Prelude.{◌≡◌, true, ◌<◌, get_or};
-ghost use Rattle.kind.specs.Object.{sized, sane};
-ghost use Rattle.mutex.specs.Mutex.{formed as formedMutex, mutex_kind};
-ghost use Rattle.mutex.specs.Post.{owner_in, layout, Starts, TriesLock, Locks, Passes, Unlocks, ReleaseDecided, SaysLocked, GetsLockCount, CountsWaiters, GetsOwner, Audits, LockDecided, UnlockDecided};
+ghost use Rattle.std.specs.Prelude.{◌≡◌, ℕ, pos, ◌≤◌, length, set};
+ghost use Rattle.thread.specs.Answer.{told, kept, done, truth};
+ghost use Rattle.wait_queue.specs.Turn.{outcome};
+ghost use Rattle.mutex.specs.Answer.{to_lock, to_unlock, to_release, unlocking, heir};
+ghost use Rattle.mutex.specs.Parts.{Owned, Nests};
+ghost use Rattle.mutex.specs.Post.{Starts, TriesLock, Locks, Passes, Unlocks, ReleaseDecided, SaysLocked, GetsLockCount, CountsWaiters, GetsOwner, Audits, LockDecided, UnlockDecided};
 
-use thread::{EBUSY, EDEADLK, EINVAL, EOVERFLOW, EPERM, MAX_PRIORITY, OK, RUNNING};
+use thread::Errno::{self, EBUSY, EDEADLK, EINVAL, ENOENT, EOVERFLOW, EPERM};
+use thread::{Caller, Coded, OK};
+use wait_queue::Outcome;
 
-// What an unlock did: Gale's UnlockResult.
-pub const RELEASED: i32 = 0;
-
-pub const UNLOCKED: i32 = 1;
-
-pub const TRANSFERRED: i32 = 2;
-
-// What a lock is to do: Gale's LockDecision. Busy is EBUSY and Overflow EOVERFLOW.
-pub const ACQUIRE: i32 = 0;
-
-pub const PEND: i32 = 1;
-
-pub const REENTRANT: i32 = 2;
-
-// Whether the numbers are as they should be where somebody waits, or nobody.
-fn numbers(flag: u32, owner: u32, count: u32, waits: bool) -> bool
-    ensures { result ≡ formedMutex (record { owner = owner_in flag owner; count = count }) waits }
-{
-    if 0 < flag {
-        return 0 < count;
-    }
-    if count == 0 {
-        return !waits;
-    }
-    false
+// What a lock is to do. Gale's Busy is EBUSY and its Overflow EOVERFLOW.
+#[derive(Clone, Copy, Debug, PartialEq, Eq)]
+pub enum LockDecision {
+    Acquire = 0,
+    Pend = 1,
+    Reentrant = 2,
 }
 
-// Whether the memory and the numbers are as they should be.
-fn formed(h: &[u32], e: &[u64]) -> bool
-    ensures { result ≡ sane mutex_kind layout h.now e.now }
-{
-    if h.len() < 4 {
-        return false;
+impl Coded for LockDecision {
+    ghost number = { to_lock };
+
+    fn code(self) -> i32 {
+        self as i32
     }
-    let n = h[3];
-    if wait_queue::fits(n, e) {
-        return numbers(h[0], h[1], h[2], 0 < n);
-    }
-    false
 }
 
-// ACQUIRE, PEND or REENTRANT; EBUSY, EOVERFLOW, EINVAL.
+// What an unlock is to do. FullyUnlocked: the first that waits is to be the owner, if there is one. Gale's NotLocked is EINVAL and its NotOwner EPERM.
+#[derive(Clone, Copy, Debug, PartialEq, Eq)]
+pub enum UnlockDecisionKind {
+    Released = 0,
+    FullyUnlocked = 1,
+}
+
+impl Coded for UnlockDecisionKind {
+    ghost number = { to_unlock };
+
+    fn code(self) -> i32 {
+        self as i32
+    }
+}
+
+// What a wait at a condition variable would do to the mutex.
+#[derive(Clone, Copy, Debug, PartialEq, Eq)]
+pub enum ReleaseDecision {
+    Unlocked = 1,
+    Transferred = 2,
+}
+
+impl Coded for ReleaseDecision {
+    ghost number = { to_release };
+
+    fn code(self) -> i32 {
+        self as i32
+    }
+}
+
+// What an unlock did. Transferred: the thread of the word owns it now, and is to be made ready with 0.
+#[derive(Clone, Copy, Debug, PartialEq, Eq)]
+pub enum UnlockResult {
+    Released,
+    Unlocked,
+    Transferred(u64),
+}
+
+impl Coded for UnlockResult {
+    ghost number = { unlocking };
+
+    fn code(self) -> i32 {
+        match self {
+            UnlockResult::Released => 0,
+            UnlockResult::Unlocked => 1,
+            UnlockResult::Transferred(_) => 2,
+        }
+    }
+}
+
+// Who owns a mutex whose memory and numbers are as they should be.
+fn owner(h: &[u32], e: &[u64]) -> Result<Option<u32>, Errno>
+    ensures { Owned h.now e.now result }
+{
+    let &[flag, owner, count, waiting, ..] = h else {
+        return Err(EINVAL);
+    };
+    match (flag, count, waiting) {
+        (0, 0, 0) if wait_queue::fits(0, e) => Ok(None),
+        (0, _, _) | (_, 0, _) => Err(EINVAL),
+        (_, _, n) if wait_queue::fits(n, e) => Ok(Some(owner)),
+        _ => Err(EINVAL),
+    }
+}
+
+// A free one is taken.
+fn take(h: &mut [u32], id: u32)
+    requires { 4 ≤ length h.old }
+    ensures { h.new ≡ set (set (set h.old 0 1) 1 id) 2 1 }
+{
+    h[0] = 1;
+    h[1] = id;
+    h[2] = 1;
+}
+
 pub fn lock_decide(
     lock_count: u32,
     owner_is_null: bool,
     owner_is_current: bool,
     is_no_wait: bool,
-) -> i32
-    ensures { LockDecided lock_count owner_is_null owner_is_current is_no_wait result }
+) -> Result<LockDecision, Errno>
+    ensures { LockDecided lock_count owner_is_null owner_is_current is_no_wait (told to_lock result) }
 {
-    if owner_is_null {
-        if 0 < lock_count {
-            return EINVAL;
-        }
-        return ACQUIRE;
+    match (lock_count, owner_is_null, owner_is_current, is_no_wait) {
+        (0, true, _, _) => Ok(LockDecision::Acquire),
+        (0, _, _, _) | (_, true, _, _) => Err(EINVAL),
+        (u32::MAX, _, true, _) => Err(EOVERFLOW),
+        (_, _, true, _) => Ok(LockDecision::Reentrant),
+        (_, _, false, true) => Err(EBUSY),
+        (_, _, false, false) => Ok(LockDecision::Pend),
     }
-    if lock_count == 0 {
-        return EINVAL;
-    }
-    if owner_is_current {
-        if lock_count == 4294967295 {
-            return EOVERFLOW;
-        }
-        return REENTRANT;
-    }
-    if is_no_wait {
-        return EBUSY;
-    }
-    PEND
 }
 
-// RELEASED; UNLOCKED: the first that waits is to be the owner, if there is one; EPERM, EINVAL.
-pub fn unlock_decide(lock_count: u32, owner_is_null: bool, owner_is_current: bool) -> i32
-    ensures { UnlockDecided lock_count owner_is_null owner_is_current result }
+pub fn unlock_decide(
+    lock_count: u32,
+    owner_is_null: bool,
+    owner_is_current: bool,
+) -> Result<UnlockDecisionKind, Errno>
+    ensures { UnlockDecided lock_count owner_is_null owner_is_current (told to_unlock result) }
 {
-    if owner_is_null {
-        return EINVAL;
+    match (lock_count, owner_is_null, owner_is_current) {
+        (0, _, _) | (_, true, _) => Err(EINVAL),
+        (_, _, false) => Err(EPERM),
+        (1, _, true) => Ok(UnlockDecisionKind::FullyUnlocked),
+        (_, _, true) => Ok(UnlockDecisionKind::Released),
     }
-    if lock_count == 0 {
-        return EINVAL;
-    }
-    if !owner_is_current {
-        return EPERM;
-    }
-    if 1 < lock_count {
-        return RELEASED;
-    }
-    UNLOCKED
 }
 
-// OK: it is free.
-pub fn init(h: &mut [u32]) -> i32
-    ensures { Starts h.old result h.new }
+pub fn init(h: &mut [u32]) -> Result<(), Errno>
+    ensures { Starts h.old (told done result) h.new }
 {
     if h.len() < 4 {
-        return EINVAL;
+        return Err(EINVAL);
     }
     h[0] = 0;
     h[2] = 0;
     h[3] = 0;
-    OK
+    Ok(())
 }
 
-// OK: the thread owns it, with one lock more; EBUSY: another does; EOVERFLOW.
-pub fn try_lock(h: &mut [u32], e: &[u64], id: u32) -> i32
-    ensures { TriesLock id h.old e.now result h.new }
+// One lock more of its owner.
+fn nest(h: &mut [u32]) -> Result<(), Errno>
+    requires { 4 ≤ length h.old }
+    ensures { Nests h.old result h.new }
 {
-    if !formed(h, e) {
-        return EINVAL;
-    }
-    let count = h[2];
-    if count == 0 {
-        h[0] = 1;
-        h[1] = id;
-        h[2] = 1;
-        return OK;
-    }
-    if h[1] != id {
-        return EBUSY;
-    }
-    if count == 4294967295 {
-        return EOVERFLOW;
-    }
-    h[2] = count + 1;
-    OK
+    h[2] = h[2].checked_add(1).ok_or(EOVERFLOW)?;
+    Ok(())
 }
 
-// A mutex with no lock: free, or malformed.
-fn seize(h: &mut [u32], e: &[u64], id: u32, priority: u32, state: u32) -> i32
-    requires { (sized 4 h.old e.now ≡ true) × (get_or h.old 2 0 ≡ 0) }
-    ensures { Locks id priority state h.old e.now result h.new e.now }
+// The thread owns it, with one lock more; EBUSY: another does.
+pub fn try_lock(h: &mut [u32], e: &[u64], id: u32) -> Result<(), Errno>
+    ensures { TriesLock id h.old e.now (told done result) h.new }
 {
-    if 0 < h[0] {
-        return EINVAL;
+    match owner(h, e)? {
+        None => take(h, id),
+        Some(other) if other != id => return Err(EBUSY),
+        Some(_) => nest(h)?,
     }
-    if 0 < h[3] {
-        return EINVAL;
-    }
-    if state != RUNNING {
-        return wait_queue::caller(priority, state);
-    }
-    if MAX_PRIORITY <= priority {
-        return EINVAL;
-    }
-    h[0] = 1;
-    h[1] = id;
-    h[2] = 1;
-    OK
+    Ok(())
 }
 
-// The thread's own mutex.
-fn nest(h: &mut [u32], e: &[u64], id: u32, priority: u32, state: u32) -> i32
-    requires { (sized 4 h.old e.now ≡ true) × (0 < get_or h.old 0 0) × (0 < get_or h.old 2 0) × (get_or h.old 1 0 ≡ id) }
-    ensures { Locks id priority state h.old e.now result h.new e.now }
+// The thread owns it, with one lock more, or waits, behind all of equal or higher priority.
+pub fn lock_blocking(h: &mut [u32], e: &mut [u64], caller: Caller) -> Result<Outcome, Errno>
+    ensures { Locks caller.id caller.priority caller.state h.old e.old (told outcome result) h.new e.new }
 {
-    if !wait_queue::fits(h[3], e) {
-        return EINVAL;
+    let owner = owner(h, e)?;
+    caller.may_wait()?;
+    match owner {
+        None => take(h, caller.id),
+        Some(other) if other != caller.id => return wait_queue::enter(&mut h[3], e, caller),
+        Some(_) => nest(h)?,
     }
-    if state != RUNNING {
-        return wait_queue::caller(priority, state);
-    }
-    if MAX_PRIORITY <= priority {
-        return EINVAL;
-    }
-    let depth = h[2];
-    if depth == 4294967295 {
-        return EOVERFLOW;
-    }
-    h[2] = depth + 1;
-    OK
+    Ok(Outcome::Acquired)
 }
 
-// OK: the thread owns it, with one lock more; WAITS: it waits, behind all of equal or higher priority.
-pub fn lock_blocking(h: &mut [u32], e: &mut [u64], id: u32, priority: u32, state: u32) -> i32
-    ensures { Locks id priority state h.old e.old result h.new e.new }
-{
-    if !kind::housed(h, 4, e) {
-        return EINVAL;
-    }
-    if h[2] == 0 {
-        return seize(h, e, id, priority, state);
-    }
-    if h[0] == 0 {
-        return EINVAL;
-    }
-    if h[1] != id {
-        return wait_queue::pend(&mut h[3], e, id, priority, state);
-    }
-    nest(h, e, id, priority, state)
-}
-
-// The last unlock, whoever calls and whatever the numbers are: UNLOCKED; TRANSFERRED: who is to be made ready, with 0, owns it now.
-pub fn pass(h: &mut [u32], e: &[u64], who: &mut u64) -> i32
-    ensures { Passes h.old e.now who.old result h.new who.new }
+// The last unlock, whoever calls and whatever the numbers are.
+pub fn pass(h: &mut [u32], e: &[u64]) -> Result<UnlockResult, Errno>
+    ensures { (x : ℕ) → Passes h.old e.now x (told unlocking result) h.new (kept heir result x) }
 {
     if h.len() < 4 {
-        return EINVAL;
+        return Err(EINVAL);
     }
-    let waits = h[3];
-    if !wait_queue::fits(waits, e) {
-        return EINVAL;
-    }
-    if waits == 0 {
+    let Some(next) = wait_queue::unpend_first(&mut h[3], e, OK)? else {
         h[0] = 0;
         h[2] = 0;
-        return UNLOCKED;
-    }
-    let mut next = 0;
-    wait_queue::unpend_first(&mut h[3], e, OK, &mut next);
-    h[0] = 1;
-    h[1] = (next % 4294967296) as u32;
-    h[2] = 1;
-    *who = next;
-    TRANSFERRED
+        return Ok(UnlockResult::Unlocked);
+    };
+    take(h, (next % 4294967296) as u32);
+    Ok(UnlockResult::Transferred(next))
 }
 
-// RELEASED: the thread owns it still; UNLOCKED: it is free; TRANSFERRED: who is to be made ready, with 0, owns it now; EPERM: another owns it.
-pub fn unlock(h: &mut [u32], e: &[u64], id: u32, who: &mut u64) -> i32
-    ensures { Unlocks id h.old e.now who.old result h.new who.new }
+// One lock less; EPERM: another owns it.
+pub fn unlock(h: &mut [u32], e: &[u64], id: u32) -> Result<UnlockResult, Errno>
+    ensures { (x : ℕ) → Unlocks id h.old e.now x (told unlocking result) h.new (kept heir result x) }
 {
-    if !kind::housed(h, 4, e) {
-        return EINVAL;
-    }
-    let held = h[2];
-    if held == 0 {
-        return EINVAL;
-    }
-    if h[0] == 0 {
-        return EINVAL;
-    }
-    if !wait_queue::fits(h[3], e) {
-        return EINVAL;
-    }
-    if h[1] != id {
-        return EPERM;
-    }
-    if 1 < held {
-        h[2] = held - 1;
-        return RELEASED;
-    }
-    pass(h, e, who)
-}
-
-// What release_decide answers, whatever the mutex and the thread are.
-fn release_any(h: &[u32], e: &[u64], id: u32, priority: u32, state: u32) -> i32
-    ensures { ReleaseDecided id priority state h.now e.now result }
-{
-    if !formed(h, e) {
-        return EINVAL;
-    }
-    if state != RUNNING {
-        return wait_queue::caller(priority, state);
-    }
-    if MAX_PRIORITY <= priority {
-        return EINVAL;
-    }
-    let locks = h[2];
-    if locks == 0 {
-        return EINVAL;
-    }
-    if h[1] != id {
-        return EPERM;
-    }
-    if 1 < locks {
-        return EDEADLK;
-    }
-    if h[3] == 0 {
-        return UNLOCKED;
-    }
-    TRANSFERRED
-}
-
-// What a wait at a condition variable would do to the mutex: UNLOCKED, TRANSFERRED; EPERM, EDEADLK: the thread holds it more than once.
-pub fn release_decide(h: &[u32], e: &[u64], id: u32, priority: u32, state: u32) -> i32
-    ensures { ReleaseDecided id priority state h.now e.now result }
-{
-    if !kind::housed(h, 4, e) {
-        return EINVAL;
+    let Some(owner) = owner(h, e)? else {
+        return Err(EINVAL);
+    };
+    if owner != id {
+        return Err(EPERM);
     }
     if h[2] == 1 {
-        if 0 < h[0] {
-            if h[1] == id {
-                if state == RUNNING {
-                    if priority < MAX_PRIORITY {
-                        if h[3] == 0 {
-                            return UNLOCKED;
-                        }
-                    }
-                }
-            }
-        }
+        return pass(h, e);
     }
-    release_any(h, e, id, priority, state)
+    h[2] -= 1;
+    Ok(UnlockResult::Released)
 }
 
-// 1: somebody owns it; 0: nobody.
-pub fn is_locked(h: &[u32], e: &[u64]) -> i32
-    ensures { SaysLocked h.now e.now result }
+// EPERM: another owns it; EDEADLK: the thread holds it more than once.
+pub fn release_decide(h: &[u32], e: &[u64], caller: Caller) -> Result<ReleaseDecision, Errno>
+    ensures { ReleaseDecided caller.id caller.priority caller.state h.now e.now (told to_release result) }
 {
-    if !formed(h, e) {
-        return EINVAL;
+    let owner = owner(h, e)?;
+    caller.may_wait()?;
+    if owner.ok_or(EINVAL)? != caller.id {
+        return Err(EPERM);
     }
-    if 0 < h[0] {
-        return 1;
+    match (h[2], h[3]) {
+        (1, 0) => Ok(ReleaseDecision::Unlocked),
+        (1, _) => Ok(ReleaseDecision::Transferred),
+        _ => Err(EDEADLK),
     }
-    0
 }
 
-pub fn lock_count_get(h: &[u32], e: &[u64]) -> i64
-    ensures { GetsLockCount h.now e.now result }
+pub fn is_locked(h: &[u32], e: &[u64]) -> Result<bool, Errno>
+    ensures { SaysLocked h.now e.now (told truth result) }
 {
-    if !formed(h, e) {
-        return -22;
-    }
-    seq::signed(h[2])
+    Ok(owner(h, e)?.is_some())
 }
 
-pub fn num_waiters(h: &[u32], e: &[u64]) -> i64
-    ensures { CountsWaiters h.now e.now result }
+pub fn lock_count_get(h: &[u32], e: &[u64]) -> Result<u32, Errno>
+    ensures { GetsLockCount h.now e.now (told pos result) }
 {
-    if !formed(h, e) {
-        return -22;
-    }
-    seq::signed(h[3])
+    owner(h, e)?;
+    Ok(h[2])
 }
 
-// The owner; -2: nobody.
-pub fn owner_get(h: &[u32], e: &[u64]) -> i64
-    ensures { GetsOwner h.now e.now result }
+pub fn num_waiters(h: &[u32], e: &[u64]) -> Result<u32, Errno>
+    ensures { CountsWaiters h.now e.now (told pos result) }
 {
-    if !formed(h, e) {
-        return -22;
-    }
-    if h[0] == 0 {
-        return -2;
-    }
-    seq::signed(h[1])
+    owner(h, e)?;
+    Ok(h[3])
+}
+
+// ENOENT: nobody owns it.
+pub fn owner_get(h: &[u32], e: &[u64]) -> Result<u32, Errno>
+    ensures { GetsOwner h.now e.now (told pos result) }
+{
+    owner(h, e)?.ok_or(ENOENT)
 }
 
 // Whether the whole mutex is well formed.
 pub fn audit(h: &[u32], e: &[u64]) -> bool
     ensures { Audits h.now e.now result }
 {
-    if !formed(h, e) {
+    let Ok(owner) = owner(h, e) else {
         return false;
-    }
-    if !wait_queue::audit(h[3], e) {
-        return false;
-    }
-    if h[0] == 0 {
-        return true;
-    }
-    !wait_queue::holds(h[3], e, h[1])
+    };
+    wait_queue::audit(h[3], e) && !owner.is_some_and(|id| wait_queue::holds(h[3], e, id))
 }

@@ -1,26 +1,33 @@
 -- What each function's answer means for the pipe. Assumes nothing.
 use mathlib.Core.Path.{◌≡◌, refl, sym, ap, subst, ◌∙◌}
-use mathlib.Core.Bool.{Bool, true, cond}
-use mathlib.Core.List.{List}
-use Prim.Native.Nat.{ℕ, ◌+◌, ◌-◌, ◌≤◌, ◌<◌, min}
+use mathlib.Core.Bool.{Bool, true, false, cond}
+use mathlib.Core.List.{List, [], ◌∷◌}
+use Prim.Native.Nat.{ℕ, ◌-◌, ◌≤◌, ◌<◌, min}
 use native.Mathlib.Omega.{arith}
-use borrow.Author.Tests.{lt-ltb, le-ltb, lt-leb, le-leb}
+use borrow.Author.Tests.{lt-ltb, le-leb, eq-eqb, ne_eqb, eqb-false, ltb-true, ltb-false}
+use lib.Dec.{eqb, ltb}
 use lib.IntN.{ℤ, pos}
 use lib.ListN.{length, take, get_or, set}
 use lib.Seq.{take_all}
-use Rattle.thread.specs.Code.{ok, einval, eagain, epipe, enomsg, ecanceled}
-use Rattle.store.specs.Store.{refuse, accept, carry, reply, Becomes, looks}
-use Rattle.store.proofs.Laws.{replies, refuses, did_yes, became, as_was, looks-is, start-short, start_bad, start-made}
-use Rattle.ring_buf.specs.Ring.{Ring, clear}
+use Rattle.seq.specs.List.{any}
+use Rattle.thread.specs.Answer.{truth}
+use Rattle.thread.specs.Code.{ok, einval, eagain, epipe, enomsg}
+use Rattle.store.specs.Store.{accept, carry, reply, Becomes, looks, Did, Fills}
+use Rattle.store.proofs.Laws.{replies, refuses, refuses-place, did_yes, became, looks-is, start-made}
+use Rattle.ring_buf.specs.Ring.{clear}
 use Rattle.ring_buf.specs.Bytes.{held, bytes, put_many, get_many, reset as resetRing}
 use Rattle.ring_buf.proofs.Rings.{by-lt}
 use Rattle.ring_buf.proofs.Headers.{Sound, is-sound}
 use Rattle.ring_buf.proofs.Answers.{held_is, spare-is, reset-done, made as made-ring}
 use Rattle.ring_buf.specs.Post.{PutsN, GetsN}
-use Rattle.pipe.specs.Pipe.{Pipe, Verdict, never, later, move, wholly, once, writes, writes_all, reads, reads_all, holding, less, goes_in, comes_out, to_write, to_write_all, to_read, to_read_all, write, write_all, read, read_all, reset, close, clear_reset}
-use Rattle.pipe.specs.Post.{Starts, Writes, WritesAll, Reads, ReadsAll, Resets, Closes, ClearsReset, is_open, is_resetting, formed, object, layout, flag}
-use Rattle.pipe.proofs.Verdicts.{write_resetting, write_closed, write-none, write-full, write_moves, write-all-fits, write-all-not, read_resetting, read_none, read_closed, read-empty, read-moves, read-all-fits, read-all-not, resetting-on, resetting_off, open_on, open_off}
-use Rattle.pipe.proofs.Headers.{Formed, is-formed, kept-flags, new-flags, on-ring, on-ring-place}
+use Rattle.pipe.specs.Pipe.{Pipe, Verdict, never, later, move, wholly, once, writes, writes_all, reads, reads_all, holding, less, goes_in, comes_out, to_write, to_write_all, to_read, to_read_all, write, write_all, read, read_all, reset}
+use Rattle.pipe.specs.Post.{Starts, Writes, WritesAll, Reads, ReadsAll, Resets, is_open, is_resetting, formed, object, layout, data_held, space, is_empty, is_full}
+use Rattle.pipe.specs.declared.Numbers.{Numbers}
+use Rattle.pipe.specs.declared.Condition.TheVariants.{Closed, Open, Resetting, OpenAndResetting}
+use Rattle.pipe.specs.declared.Condition.{Condition}
+use Rattle.pipe.specs.Told.{flags_of, Seen, writes_by, reads_by, write_by, read_by}
+use Rattle.pipe.proofs.Verdicts.{write_moves, write-all-fits, read-moves, read-all-fits}
+use Rattle.pipe.proofs.Headers.{Formed, is-formed, from-formed, new-flags, on-ring, on-ring-place}
 
 pub take-least : (n : ℕ) (l : List ℕ) → take n l ≡ take (min n (length l)) l
 take-least n l =
@@ -105,157 +112,151 @@ module _ (h b : List ℕ) (s : Formed h b) where
     written : {v : Verdict} → writing h b s.ring (length l) ≡ v → reply layout (write l) h b ≡ goes_in l (object h b) v
     written e = replies layout (write l) h b fine ∙ ap (goes_in l (object h b)) (to_write_lem h b s.ring (length l) e)
 
-    pub write-cancelled : 2 ≤ get_or h 3 0 → Writes l h b ecanceled h b
-    write-cancelled f = refuses layout (write l) h b (written (write_resetting (get_or h 2 0) (get_or h 0 0) (get_or h 3 0) (length l) f s.flags))
-
-    pub write_broken : get_or h 3 0 ≡ 0 → Writes l h b epipe h b
-    write_broken e = refuses layout (write l) h b (written (write_closed (get_or h 2 0) (get_or h 0 0) (get_or h 3 0) (length l) e))
-
-    pub write-nothing : get_or h 3 0 ≡ 1 → length l ≡ 0 → Writes l h b enomsg h b
-    write-nothing e z = refuses layout (write l) h b (written (write-none (get_or h 2 0) (get_or h 0 0) (get_or h 3 0) (length l) e z))
-
-    pub write_again : get_or h 3 0 ≡ 1 → 0 < length l → get_or h 0 0 ≤ get_or h 2 0 → Writes l h b eagain h b
-    write_again e f g = refuses layout (write l) h b (written (write-full (get_or h 2 0) (get_or h 0 0) (get_or h 3 0) (length l) e f g))
-
     -- all or nothing
     written_all : {v : Verdict} → writing-all h b s.ring (length l) ≡ v → reply layout (write_all l) h b ≡ goes_in l (object h b) v
     written_all e = replies layout (write_all l) h b fine ∙ ap (goes_in l (object h b)) (to_write_all_lem h b s.ring (length l) e)
 
-    pub write-all-cancelled : 2 ≤ get_or h 3 0 → WritesAll l h b ecanceled h b
-    write-all-cancelled f =
-        refuses layout (write_all l) h b
-        (written_all (ap (wholly (length l) (once (get_or h 0 0) (length l))) (write_resetting (get_or h 2 0) (get_or h 0 0) (get_or h 3 0) (length l) f s.flags)))
-
-    pub write-all_broken : get_or h 3 0 ≡ 0 → WritesAll l h b epipe h b
-    write-all_broken e =
-        refuses layout (write_all l) h b
-        (written_all (ap (wholly (length l) (once (get_or h 0 0) (length l))) (write_closed (get_or h 2 0) (get_or h 0 0) (get_or h 3 0) (length l) e)))
-
-    pub write-all-nothing : get_or h 3 0 ≡ 1 → length l ≡ 0 → WritesAll l h b enomsg h b
-    write-all-nothing e z =
-        refuses layout (write_all l) h b
-        (written_all (ap (wholly (length l) (once (get_or h 0 0) (length l))) (write-none (get_or h 2 0) (get_or h 0 0) (get_or h 3 0) (length l) e z)))
-
-    pub write-all_too_long : get_or h 3 0 ≡ 1 → 0 < length l → get_or h 0 0 < length l → WritesAll l h b einval h b
-    write-all_too_long e f g =
-        refuses layout (write_all l) h b
-        (written_all {v = never einval} (write-all-not (get_or h 2 0) (get_or h 0 0) (get_or h 3 0) (length l) e f (omega arith) ∙ rw (lt-ltb (get_or h 0 0) (length l) g)))
-
-    pub write-all-again : get_or h 3 0 ≡ 1 → 0 < length l → length l ≤ get_or h 0 0 → get_or h 0 0 - get_or h 2 0 < length l → WritesAll l h b eagain h b
-    write-all-again e f g k =
-        refuses layout (write_all l) h b
-        (written_all {v = later} (write-all-not (get_or h 2 0) (get_or h 0 0) (get_or h 3 0) (length l) e f k ∙ rw (le-ltb (get_or h 0 0) (length l) g)))
-
   module _ (n : ℕ) where
-    abbrev Refused : ℤ → Type 0
-    Refused c = reply layout (read n) h b ≡ refuse c
-
     gone : {v : Verdict} → reading h b s.ring n ≡ v → reply layout (read n) h b ≡ comes_out (object h b) v
     gone e = replies layout (read n) h b fine ∙ ap (comes_out (object h b)) (to_read_lem h b s.ring n e)
-
-    pub read-cancelled : 2 ≤ get_or h 3 0 → Refused ecanceled
-    read-cancelled f = gone (read_resetting (get_or h 2 0) (get_or h 0 0) (get_or h 3 0) n f s.flags)
-
-    pub read-nothing : get_or h 3 0 < 2 → n ≡ 0 → Refused enomsg
-    read-nothing f z = gone (read_none (get_or h 2 0) (get_or h 0 0) (get_or h 3 0) n f z)
-
-    pub read_broken : get_or h 3 0 ≡ 0 → 0 < n → get_or h 2 0 ≡ 0 → Refused epipe
-    read_broken e f z = gone (read_closed (get_or h 2 0) (get_or h 0 0) (get_or h 3 0) n e f z)
-
-    pub read_again : get_or h 3 0 ≡ 1 → 0 < n → get_or h 2 0 ≡ 0 → Refused eagain
-    read_again e f z = gone (read-empty (get_or h 2 0) (get_or h 0 0) (get_or h 3 0) n e f z)
-
-    -- all or nothing
-    abbrev Refused-all : ℤ → Type 0
-    Refused-all c = reply layout (read_all n) h b ≡ refuse c
 
     gone-all : (v : Verdict) → reading-all h b s.ring n ≡ v → reply layout (read_all n) h b ≡ comes_out (object h b) v
     gone-all v e = replies layout (read_all n) h b fine ∙ ap (comes_out (object h b)) (to_read_all_lem h b s.ring n e)
 
-    abbrev short : Verdict
-    short = cond (is_open (get_or h 3 0)) (once (get_or h 0 0) n) (never epipe)
-
-    pub read-all-cancelled : 2 ≤ get_or h 3 0 → Refused-all ecanceled
-    read-all-cancelled f =
-        gone-all (never ecanceled) (ap (wholly n short) (read_resetting (get_or h 2 0) (get_or h 0 0) (get_or h 3 0) n f s.flags))
-
-    pub read-all-nothing : get_or h 3 0 < 2 → n ≡ 0 → Refused-all enomsg
-    read-all-nothing f z = gone-all (never enomsg) (ap (wholly n short) (read_none (get_or h 2 0) (get_or h 0 0) (get_or h 3 0) n f z))
-
-    module _ (f : 0 < n) (g : get_or h 2 0 < n) where
-      few : get_or h 3 0 < 2 → reading-all h b s.ring n ≡ short
-      few e = read-all-not (get_or h 2 0) (get_or h 0 0) (get_or h 3 0) n e f g
-
-      pub read-all_broken : get_or h 3 0 ≡ 0 → Refused-all epipe
-      read-all_broken e = gone-all (never epipe) (few (omega arith) ∙ rw e)
-
-      pub read-all_too_long : get_or h 3 0 ≡ 1 → get_or h 0 0 < n → Refused-all einval
-      read-all_too_long e k = gone-all (never einval) (few (omega arith) ∙ rw (e, lt-ltb (get_or h 0 0) n k))
-
-      pub read-all-again : get_or h 3 0 ≡ 1 → n ≤ get_or h 0 0 → Refused-all eagain
-      read-all-again e k = gone-all later (few (omega arith) ∙ rw (e, le-ltb (get_or h 0 0) n k))
-
 -- ---- other calls
+
+told_none : (l : List ℕ) → truth (eqb (length l) 0) ≡ cond (any l) (pos 0) (pos 1)
+told_none [] = refl
+told_none (x ∷ l) = rw (ne_eqb (length (x ∷ l)) 0 (λ e. omega arith))
+
+none_left : (u s : ℕ) → u ≤ s → eqb u s ≡ eqb (s - u) 0
+none_left u s k =
+    by-lt u s (λ l. rw (ne_eqb u s (λ e. omega arith), ne_eqb (s - u) 0 (λ e. omega arith))) (λ l. rw (eq-eqb u s (omega arith), eq-eqb (s - u) 0 (omega arith)))
 
 same : {h b h' b' : List ℕ} {p q : Pipe} → p ≡ q → Becomes layout p h b h' b' → Becomes layout q h b h' b'
 same {h} {b} {h'} {b'} e m = subst (λ (x : Pipe). Becomes layout x h b h' b') e m
 
 module _ (h b : List ℕ) (s : Formed h b) where
-  stays : Becomes bytes (held h b) h b h b
-  stays = as_was bytes h b (is-sound h b s.ring)
-
   emptied : Becomes bytes (clear (held h b)) h b (set (set h 1 0) 2 0) b
   emptied = became bytes resetRing h b (reset-done h b s.ring) (is-sound h b s.ring) refl
 
-  pub reset-new : get_or h 3 0 < 2 → Resets h b ok (set (set (set h 1 0) 2 0) 3 (get_or h 3 0 + 2))
-  reset-new f =
+  pub reset-to : (f : ℕ) → f ≤ 3 → is_resetting f ≡ true → is_open f ≡ is_open (get_or h 3 0) → Resets h b ok (set (set (set h 1 0) 2 0) 3 f)
+  reset-to f k r o =
       did_yes layout reset h b (fine h b s) refl
-      (same (λ i. record { opened = open_on (get_or h 3 0) f i; resetting = resetting-on (get_or h 3 0 + 2) (omega arith) (omega arith) i; ring = clear (held h b) })
-      (new-flags h b s.words emptied (get_or h 3 0 + 2) (omega arith)))
+      (same (λ i. record { opened = o i; resetting = r i; ring = clear (held h b) }) (new-flags h b s.words emptied f k))
 
-  pub reset-again : 2 ≤ get_or h 3 0 → Resets h b ok (set (set h 1 0) 2 0)
-  reset-again f =
-      did_yes layout reset h b (fine h b s) refl
-      (same (λ i. record { opened = is_open (get_or h 3 0); resetting = resetting-on (get_or h 3 0) f s.flags i; ring = clear (held h b) })
-      (kept-flags h b s.words emptied s.flags))
+-- by the numbers
+module _ (h b : List ℕ) {p : Numbers} (s : Seen h b p) where
+  abbrev in_ring : Sound h b
+  in_ring = (from-formed h b s.formed).ring
 
-  pub close-done : Closes h b ok (set h 3 0)
-  close-done = did_yes layout close h b (fine h b s) refl (new-flags h b s.words stays 0 (omega arith))
+  pub told_data : pos p.used ≡ looks layout data_held h b
+  told_data = ap pos (s.used ∙ sym (held_is h b in_ring)) ∙ sym (looks-is layout h b data_held s.formed)
 
-  pub clear-over : 2 ≤ get_or h 3 0 → ClearsReset h b ok (set h 3 (get_or h 3 0 - 2))
-  clear-over f =
-      did_yes layout clear_reset h b (fine h b s) refl
-      (same (λ i. record { opened = open_off (get_or h 3 0) f s.flags i; resetting = resetting_off (get_or h 3 0 - 2) (omega (arith, s.flags)) i; ring = held h b })
-      (new-flags h b s.words stays (get_or h 3 0 - 2) (omega (arith, s.flags))))
+  pub told_space : pos (p.size - p.used) ≡ looks layout space h b
+  told_space = rw (s.used, s.size) (ap pos (sym (spare-is h b in_ring)) ∙ sym (looks-is layout h b space s.formed))
 
-  pub clear_none : get_or h 3 0 < 2 → ClearsReset h b ok h
-  clear_none f =
-      did_yes layout clear_reset h b (fine h b s) refl
-      (same (λ i. record { opened = is_open (get_or h 3 0); resetting = resetting_off (get_or h 3 0) f i; ring = held h b })
-      (kept-flags h b s.words stays s.flags))
+  pub told_empty : truth (eqb p.used 0) ≡ looks layout is_empty h b
+  told_empty =
+      ap (λ (n : ℕ). truth (eqb n 0)) (s.used ∙ sym (held_is h b in_ring)) ∙ told_none (held h b).held
+      ∙ sym (looks-is layout h b is_empty s.formed)
 
-  -- ---- what is told
+  pub told_full : truth (eqb p.used p.size) ≡ looks layout is_full h b
+  told_full =
+      ap truth (none_left p.used p.size s.under)
+      ∙ rw (s.used, s.size) (ap (λ (n : ℕ). truth (eqb n 0)) (sym (spare-is h b in_ring)) ∙ told_none (held h b).spare ∙ sym (looks-is layout h b is_full s.formed))
 
-  pub looks-ring : (f : Ring ℕ → ℤ) → looks layout (λ p. f p.ring) h b ≡ looks bytes f h b
-  looks-ring f = looks-is layout h b (λ p. f p.ring) (fine h b s) ∙ sym (looks-is bytes h b f (is-sound h b s.ring))
+  pub reset-opened : is_open (flags_of p.condition) ≡ true → Resets h b ok (set (set (set h 1 0) 2 0) 3 3)
+  reset-opened e = reset-to h b (from-formed h b s.formed) 3 (omega arith) refl (sym (ap is_open (sym s.flags) ∙ e))
 
-  pub open_told : {t : Bool} → is_open (get_or h 3 0) ≡ t → looks layout (λ p. flag p.opened) h b ≡ flag t
-  open_told e = looks-is layout h b (λ p. flag p.opened) (fine h b s) ∙ ap flag e
+  pub reset-closed : is_open (flags_of p.condition) ≡ false → Resets h b ok (set (set (set h 1 0) 2 0) 3 2)
+  reset-closed e = reset-to h b (from-formed h b s.formed) 2 (omega arith) refl (sym (ap is_open (sym s.flags) ∙ e))
 
-  pub resetting-told : {t : Bool} → is_resetting (get_or h 3 0) ≡ t → looks layout (λ p. flag p.resetting) h b ≡ flag t
-  resetting-told e = looks-is layout h b (λ p. flag p.resetting) (fine h b s) ∙ ap flag e
+-- ---- a write or a read in src
 
--- a new pipe
+-- what all-or-nothing moves, the other moves too, and it is all
+wholly_moves : (n k : ℕ) (w v : Verdict) → (w ≡ move k → ⊥) → wholly n w v ≡ move k → (v ≡ move k) × (n ≤ k)
+wholly_moves n k w (never c) f e = absurd (cc)
+wholly_moves n k w later f e = absurd (f e)
+wholly_moves n k w (move j) f e = go (ltb j n) refl e
+  where
+    go : (x : Bool) → ltb j n ≡ x → cond x w (move j) ≡ move k → (move j ≡ move k) × (n ≤ k)
+    go true g z = absurd (f z)
+    go false g z = let y : j ≡ k = cc in (z, omega (arith, ltb-false j n g))
+
+stays_put : (s n k : ℕ) → once s n ≡ move k → ⊥
+stays_put s n k e = go (ltb s n) e
+  where
+    go : (x : Bool) → cond x (never einval) later ≡ move k → ⊥
+    go true z = cc
+    go false z = cc
+
+stays_out : (o : Bool) (s n k : ℕ) → cond o (once s n) (never epipe) ≡ move k → ⊥
+stays_out true s n k e = stays_put s n k e
+stays_out false s n k e = cc
+
+write_needs : (c : Condition) (u s n k : ℕ) → writes u s (is_open (flags_of c)) (is_resetting (flags_of c)) n ≡ move k
+    → (flags_of c ≡ 1) × (0 < n) × (u < s) × (k ≡ min n (s - u))
+write_needs Closed u s n k e = absurd (cc)
+write_needs Resetting u s n k e = absurd (cc)
+write_needs OpenAndResetting u s n k e = absurd (cc)
+write_needs Open u s n k e = go (eqb n 0) (ltb u s) refl refl e
+  where
+    go : (x y : Bool) → eqb n 0 ≡ x → ltb u s ≡ y → cond x (never enomsg) (cond y (move (min n (s - u))) later) ≡ move k → (flags_of Open ≡ 1) × (0 < n) × (u < s) × (k ≡ min n (s - u))
+    go true y f g z = absurd (cc)
+    go false true f g z = (refl, omega (arith, eqb-false n 0 f), ltb-true u s g, (cc))
+    go false false f g z = absurd (cc)
+
+read_needs : (c : Condition) (u n k : ℕ) → reads u (is_open (flags_of c)) (is_resetting (flags_of c)) n ≡ move k → (flags_of c < 2) × (0 < n) × (0 < u) × (k ≡ min n u)
+read_needs Resetting u n k e = absurd (cc)
+read_needs OpenAndResetting u n k e = absurd (cc)
+read_needs Closed u n k e = go (eqb n 0) (ltb 0 u) refl refl e
+  where
+    go : (x y : Bool) → eqb n 0 ≡ x → ltb 0 u ≡ y → cond x (never enomsg) (cond y (move (min n u)) (never epipe)) ≡ move k → (flags_of Closed < 2) × (0 < n) × (0 < u) × (k ≡ min n u)
+    go true y f g z = absurd (cc)
+    go false true f g z = (omega arith, omega (arith, eqb-false n 0 f), ltb-true 0 u g, (cc))
+    go false false f g z = absurd (cc)
+read_needs Open u n k e = go (eqb n 0) (ltb 0 u) refl refl e
+  where
+    go : (x y : Bool) → eqb n 0 ≡ x → ltb 0 u ≡ y → cond x (never enomsg) (cond y (move (min n u)) later) ≡ move k → (flags_of Open < 2) × (0 < n) × (0 < u) × (k ≡ min n u)
+    go true y f g z = absurd (cc)
+    go false true f g z = (omega arith, omega (arith, eqb-false n 0 f), ltb-true 0 u g, (cc))
+    go false false f g z = absurd (cc)
+
+module _ (h b : List ℕ) {p : Numbers} (s : Seen h b p) where
+  abbrev good : Formed h b
+  good = from-formed h b s.formed
+
+  pub put-again : (a : Bool) (l : List ℕ) → later ≡ writes_by a p (length l) → Did layout (write_by a l) h b eagain h b
+  put-again true l e = refuses layout (write_all l) h b (written_all h b good l (sym (rw (s.used, s.size, s.flags) at e)))
+  put-again false l e = refuses layout (write l) h b (written h b good l (sym (rw (s.used, s.size, s.flags) at e)))
+
+  pub put-moves : (a : Bool) (l : List ℕ) (k : ℕ) → move k ≡ writes_by a p (length l) → {r : ℤ} {h' b' : List ℕ} → PutsN l h b r h' b' → Did layout (write_by a l) h b r h' b'
+  put-moves true l k e =
+      let n = length l in
+      let x = wholly_moves n k (once p.size n) (writes p.used p.size (is_open (flags_of p.condition)) (is_resetting (flags_of p.condition)) n) (stays_put p.size n k) (sym e) in
+      let y = write_needs p.condition p.used p.size n k x.0 in
+      wrote-all h b s.words l (sym s.flags ∙ y.0) (omega (arith, s, y)) y.1 (omega (arith, s, x.1, y))
+  put-moves false l k e =
+      let y = write_needs p.condition p.used p.size (length l) k (sym e) in
+      wrote h b s.words l (sym s.flags ∙ y.0) (omega (arith, s, y)) y.1
+
+  pub get-refused : (a : Bool) (o : List ℕ) {c : ℤ} → never c ≡ reads_by a p (length o) → Fills layout (read_by a (length o)) h b o c h o
+  get-refused true o {c} e = refuses-place layout (read_all (length o)) h b (gone-all h b good (length o) (never c) (sym (rw (s.used, s.size, s.flags) at e))) o
+  get-refused false o {c} e = refuses-place layout (read (length o)) h b (gone h b good (length o) (sym (rw (s.used, s.flags) at e))) o
+
+  pub get-moves : (a : Bool) (o : List ℕ) (k : ℕ) → move k ≡ reads_by a p (length o) → {r : ℤ} {h' o' : List ℕ} → GetsN h b o r h' o' → Fills layout (read_by a (length o)) h b o r h' o'
+  get-moves true o k e =
+      let n = length o in
+      let x = wholly_moves n k (cond (is_open (flags_of p.condition)) (once p.size n) (never epipe)) (reads p.used (is_open (flags_of p.condition)) (is_resetting (flags_of p.condition)) n)
+      (stays_out (is_open (flags_of p.condition)) p.size n k) (sym e) in
+      let y = read_needs p.condition p.used n k x.0 in
+      took-all h b s.words o (omega (arith, s, y)) y.1 (omega (arith, s, x.1, y))
+  get-moves false o k e =
+      let y = read_needs p.condition p.used (length o) k (sym e) in
+      took h b s.words o (omega (arith, s, y)) (omega (arith, s, y)) y.1
+
 module _ (h b : List ℕ) (n : ℕ) where
-  pub no_header : length h < 4 → Starts n h b einval h
-  no_header f = start-short f
-
-  pub no_bytes : 4 ≤ length h → n ≡ 0 → Starts n h b einval h
-  no_bytes k e = start_bad k (rw (le-ltb 0 n (omega arith)))
-
-  pub no_buffer : 4 ≤ length h → 0 < n → length b < n → Starts n h b einval h
-  no_buffer k f g = start_bad k (rw (lt-ltb 0 n f, lt-leb n (length b) g))
-
   pub made : 4 ≤ length h → 0 < n → n ≤ length b → Starts n h b ok (set (set (set (set h 0 n) 1 0) 2 0) 3 1)
   made k f g =
       start-made k (rw (lt-ltb 0 n f, le-leb n (length b) g))

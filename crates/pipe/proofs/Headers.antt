@@ -1,17 +1,17 @@
 -- A pipe's header: what is tested, and what a change of its ring or of its flags makes of it. Assumes nothing.
 use mathlib.Core.Path.{◌≡◌, refl, ◌∙◌}
-use mathlib.Core.Bool.{true, false}
+use mathlib.Core.Bool.{true}
 use mathlib.Core.List.{List}
-use Prim.Native.Nat.{ℕ, ◌≤◌, ◌<◌}
+use Prim.Native.Nat.{ℕ, ◌≤◌}
 use native.Mathlib.Omega.{arith}
-use borrow.Author.Tests.{lt-leb, le-leb, leb-true}
+use borrow.Author.Tests.{le-leb, leb-true}
 use lib.Dec.{leb}
 use lib.IntN.{ℤ}
 use lib.ListN.{length, get_or, set}
 use Rattle.seq.proofs.Words.{by-words}
 use Rattle.store.specs.Store.{Reply, carry, Becomes, Did, Fills}
 use Rattle.store.proofs.Laws.{both_true}
-use Rattle.store.proofs.Product.{sees, no_word, bad_word, good-word, new_word, kept_word, first_acts, first_fills}
+use Rattle.store.proofs.Product.{sees, good-word, new_word, first_acts, first_fills}
 use Rattle.ring_buf.specs.Ring.{Ring}
 use Rattle.ring_buf.specs.Bytes.{sound, held, bytes}
 use Rattle.ring_buf.proofs.Headers.{Sound, from-sound, is-sound}
@@ -23,12 +23,6 @@ module _ (h b : List ℕ) where
     pub words : 4 ≤ length h
     pub flags : get_or h 3 0 ≤ 3
     pub ring : Sound h b
-
-  pub no_words : length h < 4 → formed h b ≡ false
-  no_words f = no_word bytes (λ f. leb f 3) of_parts h b (omega arith)
-
-  pub no_flags : 3 < get_or h 3 0 → formed h b ≡ false
-  no_flags f = bad_word bytes (λ f. leb f 3) of_parts h b (lt-leb (get_or h 3 0) 3 f)
 
   pub is-ring : 4 ≤ length h → get_or h 3 0 ≤ 3 → formed h b ≡ sound h b
   is-ring w f = good-word bytes (λ f. leb f 3) of_parts h b (omega arith) (le-leb (get_or h 3 0) 3 f)
@@ -44,11 +38,7 @@ module _ (h b : List ℕ) where
 
 -- the ring is r now
 module _ (h b : List ℕ) {h' b' : List ℕ} {r : Ring ℕ} (w : 4 ≤ length h) (m : Becomes bytes r h b h' b') where
-  -- the flags stay
-  pub kept-flags : get_or h 3 0 ≤ 3 → Becomes layout (of_parts (r, get_or h 3 0)) h b h' b'
-  kept-flags k = kept_word bytes (λ f. leb f 3) of_parts h b (omega arith) (le-leb (get_or h 3 0) 3 k) m
-
-  -- they are f
+  -- the flags are f, too
   pub new-flags : (f : ℕ) → f ≤ 3 → Becomes layout (of_parts (r, f)) h b (set h' 3 f) b'
   new-flags f k =
       new_word bytes (λ f. leb f 3) of_parts h b (omega arith) f (le-leb f 3 k)

@@ -1,19 +1,16 @@
 -- What becomes of a write and a read, by the flags and the numbers. Assumes nothing.
-use mathlib.Core.Path.{◌≡◌, refl, sym, ap, subst, ◌∙◌}
+use mathlib.Core.Path.{◌≡◌, refl, ap, ◌∙◌}
 use mathlib.Core.Bool.{Bool, true, false, cond}
-use mathlib.Core.List.{[]}
-use Prim.Native.Nat.{ℕ, ◌+◌, ◌-◌, ◌≤◌, ◌<◌, min}
+use Prim.Native.Nat.{ℕ, ◌-◌, ◌≤◌, ◌<◌, min}
 use native.Mathlib.Omega.{arith}
-use borrow.Author.Tests.{lt-ltb, le-ltb, lt-leb, le-leb, leb-true, ltb-true, ltb-false, eq-eqb, ne_eqb, eqb-false}
+use borrow.Author.Tests.{lt-ltb, le-ltb, le-leb, leb-true, ltb-true, ltb-false, eq-eqb, ne_eqb, eqb-false}
 use lib.Dec.{eqb, ltb, leb}
-use lib.IntN.{ℤ, pos, negsuc}
+use lib.IntN.{pos, negsuc}
 use Rattle.thread.specs.Code.{einval, epipe, enomsg, ecanceled}
-use Rattle.store.specs.Store.{Reply, refuse, accept}
-use Rattle.seq.proofs.Order.{clash}
 use Rattle.store.proofs.Laws.{both_true}
 use Rattle.ring_buf.proofs.Rings.{by-lt}
 use Rattle.pipe.specs.Pipe.{Verdict, never, later, move, wholly, once, writes, writes_all, reads, reads_all}
-use Rattle.pipe.specs.Post.{WriteDecided, WriteAllDecided, ReadDecided, ReadAllDecided, is_open, is_resetting, Moves, goes, wakes, pends, decided, proper, held_then, write_decision, write_all_decision, read_decision, read_all_decision, Decided}
+use Rattle.pipe.specs.Post.{is_open, is_resetting, goes, wakes, decided, proper, held_then, write_decision, read_decision}
 
 pub resetting-on : (f : ℕ) → 2 ≤ f → f ≤ 3 → is_resetting f ≡ true
 resetting-on f h k = by-lt f 3 (λ l. rw (eq-eqb f 2 (omega arith))) (λ l. rw (eq-eqb f 3 (omega arith), ne_eqb f 2 (λ e. omega arith)))
@@ -143,9 +140,6 @@ module _ (used size f n : ℕ) where
   pub read_closed : f ≡ 0 → 0 < n → used ≡ 0 → reads used (is_open f) (is_resetting f) n ≡ never epipe
   read_closed e h z = rw (e, ne_eqb n 0 (λ y. omega arith), z)
 
-  pub read-empty : f ≡ 1 → 0 < n → used ≡ 0 → reads used (is_open f) (is_resetting f) n ≡ later
-  read-empty e h z = rw (e, ne_eqb n 0 (λ y. omega arith), z)
-
   pub read-moves : f < 2 → 0 < n → 0 < used → reads used (is_open f) (is_resetting f) n ≡ move (min n used)
   read-moves g h k = rw (resetting_off f g, ne_eqb n 0 (λ z. omega arith), lt-ltb 0 used k)
 
@@ -161,12 +155,6 @@ module _ (used size f n : ℕ) where
       none false z = rw (resetting_off f g, ne_eqb n 0 (λ y. omega arith), z)
 
 -- ---- on plain numbers
-
-pub open_on : (f : ℕ) → f < 2 → is_open (f + 2) ≡ is_open f
-open_on f h = by-lt f 1 (λ l. let e : f ≡ 0 = omega arith in rw e) (λ l. let e : f ≡ 1 = omega arith in rw e)
-
-pub open_off : (f : ℕ) → 2 ≤ f → f ≤ 3 → is_open (f - 2) ≡ is_open f
-open_off f h k = by-lt f 3 (λ l. let e : f ≡ 2 = omega arith in rw e) (λ l. let e : f ≡ 3 = omega arith in rw e)
 
 -- where all fit, or no byte moves whatever is asked, it is the ordinary write and read
 module _ (used size n : ℕ) where
@@ -193,33 +181,12 @@ module _ (used size n : ℕ) where
           let m : min n used ≡ n = omega (arith, h refl) in
           rw (e, lt-ltb 0 used (omega (arith, h refl)), m, le-ltb n n (omega arith))
 
--- flags that say open and not resetting; not resetting
-only_open : (f : ℕ) → f ≤ 3 → is_open f ≡ true → is_resetting f ≡ false → f ≡ 1
-only_open f k o r =
-    by-lt f 2 (λ l. by-lt f 1 (λ z. let e : f ≡ 0 = omega arith in clash (sym (rw e at o))) (λ z. omega arith)) (λ l. clash (sym (resetting-on f l k) ∙ r))
-
-not-resetting : (f : ℕ) → f ≤ 3 → is_resetting f ≡ false → f < 2
-not-resetting f k r = by-lt f 2 (λ l. l) (λ l. clash (sym (resetting-on f l k) ∙ r))
-
-module _ {d : Reply Moves} {a u : ℕ} where
-  decided_no : {c : ℤ} → d ≡ refuse c → Decided d a u c a u
-  decided_no e = rw e (record { code = refl; actual = refl; used = refl })
-
-  decided_yes : {m : Moves} {r : ℤ} → d ≡ accept m r [] → Decided d a u r m.actual m.used
-  decided_yes e = rw e (record { code = refl; actual = refl; used = refl })
-
 pub record Proper (used size f : ℕ) : Type 0 where
   pub some_size : 0 < size
   pub under : used ≤ size
   pub flags : f ≤ 3
 
 module _ (used size f : ℕ) where
-  pub no_size : size ≡ 0 → proper used size f ≡ false
-  no_size e = rw e
-
-  pub over-size : 0 < size → size < used → proper used size f ≡ false
-  over-size g h = rw (lt-ltb 0 size g, lt-leb used size h)
-
   pub by_flags : 0 < size → used ≤ size → proper used size f ≡ leb f 3
   by_flags g h = rw (lt-ltb 0 size g, le-leb used size h)
 
@@ -239,76 +206,3 @@ module _ (used size f n : ℕ) (w : Bool) where
 
   pub read_is : {v : Verdict} → proper used size f ≡ true → reads used (is_open f) (is_resetting f) n ≡ v → read_decision used size f n w ≡ decided used (cond w wakes goes) (λ k. used - k) v
   read_is p e = rw p (ap (decided used (cond w wakes goes) (λ k. used - k)) e)
-
-module _ (used size f n : ℕ) (w : Bool) (a u : ℕ) where
-  pub write_improper : proper used size f ≡ false → WriteDecided used size f n w a u einval a u
-  write_improper e = decided_no (rw e)
-
-  pub read_improper : proper used size f ≡ false → ReadDecided used size f n w a u einval a u
-  read_improper e = decided_no (rw e)
-
-  pub write-all_improper : proper used size f ≡ false → WriteAllDecided used size f n w a u einval a u
-  write-all_improper e = decided_no (rw e)
-
-  pub read-all_improper : proper used size f ≡ false → ReadAllDecided used size f n w a u einval a u
-  read-all_improper e = decided_no (rw e)
-
-  module _ (p : proper used size f ≡ true) where
-    pub write-refused : {c : ℤ} → writes used size (is_open f) (is_resetting f) n ≡ never c → WriteDecided used size f n w a u c a u
-    write-refused e = decided_no (write-is used size f n w p e)
-
-    pub write-pends : writes used size (is_open f) (is_resetting f) n ≡ later → WriteDecided used size f n w a u pends 0 used
-    write-pends e = decided_yes (write-is used size f n w p e)
-
-    pub write_straight : {k : ℕ} → w ≡ true → used ≡ 0 → writes used size (is_open f) (is_resetting f) n ≡ move k → WriteDecided used size f n w a u wakes k 0
-    write_straight {k} g z e = decided_yes (write-is used size f n w p e ∙ rw (g, eq-eqb used 0 z))
-
-    pub write-behind : {k : ℕ} → w ≡ true → 0 < used → writes used size (is_open f) (is_resetting f) n ≡ move k → WriteDecided used size f n w a u wakes k (used + k)
-    write-behind {k} g z e = decided_yes (write-is used size f n w p e ∙ rw (g, ne_eqb used 0 (λ y. omega arith)))
-
-    pub write_goes : {k : ℕ} → w ≡ false → writes used size (is_open f) (is_resetting f) n ≡ move k → WriteDecided used size f n w a u goes k (used + k)
-    write_goes {k} g e = decided_yes (write-is used size f n w p e ∙ rw g)
-
-    pub read-refused : {c : ℤ} → reads used (is_open f) (is_resetting f) n ≡ never c → ReadDecided used size f n w a u c a u
-    read-refused e = decided_no (read_is used size f n w p e)
-
-    pub read-pends : reads used (is_open f) (is_resetting f) n ≡ later → ReadDecided used size f n w a u pends 0 used
-    read-pends e = decided_yes (read_is used size f n w p e)
-
-    pub read-wakes : {k : ℕ} → w ≡ true → reads used (is_open f) (is_resetting f) n ≡ move k → ReadDecided used size f n w a u wakes k (used - k)
-    read-wakes {k} g e = decided_yes (read_is used size f n w p e ∙ rw g)
-
-    pub read_goes : {k : ℕ} → w ≡ false → reads used (is_open f) (is_resetting f) n ≡ move k → ReadDecided used size f n w a u goes k (used - k)
-    read_goes {k} g e = decided_yes (read_is used size f n w p e ∙ rw g)
-
-    -- all or nothing
-    pub write-all-is : (f ≡ 1 → n ≤ size - used) → {r : ℤ} {a' u' : ℕ} → WriteDecided used size f n w a u r a' u' → WriteAllDecided used size f n w a u r a' u'
-    write-all-is h {r} {a'} {u'} d =
-        let k = (from-proper used size f p).flags in
-        let e : write_decision used size f n w ≡ write_all_decision used size f n w =
-        write-is used size f n w p (sym (whole-write used size n (is_open f) (is_resetting f) (λ o r. h (only_open f k o r)))) ∙ sym (rw p refl) in
-        subst (λ (x : Reply Moves). Decided x a u r a' u') e d
-
-    pub read-all-is : (f < 2 → n ≤ used) → {r : ℤ} {a' u' : ℕ} → ReadDecided used size f n w a u r a' u' → ReadAllDecided used size f n w a u r a' u'
-    read-all-is h {r} {a'} {u'} d =
-        let k = (from-proper used size f p).flags in
-        let e : read_decision used size f n w ≡ read_all_decision used size f n w =
-        read_is used size f n w p (sym (whole-read used size n (is_open f) (is_resetting f) (λ r. h (not-resetting f k r)))) ∙ sym (rw p refl) in
-        subst (λ (x : Reply Moves). Decided x a u r a' u') e d
-
-    module _ (e : f ≡ 1) (g : 0 < n) where
-      pub write-all-none : size < n → WriteAllDecided used size f n w a u einval a u
-      write-all-none k = decided_no (rw (p, write-all-not used size f n e g (omega arith), lt-ltb size n k))
-
-      pub write-all-pends : n ≤ size → size - used < n → WriteAllDecided used size f n w a u pends 0 used
-      write-all-pends k l = decided_yes (rw (p, write-all-not used size f n e g l, le-ltb size n k))
-
-    module _ (g : 0 < n) (k : used < n) where
-      pub read-all-closed : f ≡ 0 → ReadAllDecided used size f n w a u epipe a u
-      read-all-closed e = decided_no (rw (p, read-all-not used size f n (omega arith) g k, e))
-
-      pub read-all-none : f ≡ 1 → size < n → ReadAllDecided used size f n w a u einval a u
-      read-all-none e l = decided_no (rw (p, read-all-not used size f n (omega arith) g k, e, lt-ltb size n l))
-
-      pub read-all-pends : f ≡ 1 → n ≤ size → ReadAllDecided used size f n w a u pends 0 used
-      read-all-pends e l = decided_yes (rw (p, read-all-not used size f n (omega arith) g k, e, le-ltb size n l))

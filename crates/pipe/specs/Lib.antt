@@ -1,5 +1,6 @@
 pub mod Pipe
 pub mod Post
+pub mod Told
 pub mod History
 pub mod HandOver
 pub mod Whole

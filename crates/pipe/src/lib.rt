@@ -2,511 +2,423 @@
 // first bytes are the ring.
 #![tactic(auto)]
 
-ghost use Rattle.std.specs.Prelude.{◌≡◌, ◌-◌, ◌<◌, ◌≤◌, min, length, get_or};
-ghost use Rattle.store.specs.Store.{refuse, reply};
-ghost use Rattle.pipe.specs.Pipe.{read as doRead, read_all as doReadAll};
-ghost use Rattle.pipe.specs.Post.{Starts, Writes, WritesAll, Reads, ReadsAll, Resets, Closes, ClearsReset, GetsSpace, GetsData, GetsSize, SaysEmpty, SaysFull, SaysOpen, SaysResetting, WriteDecided, WriteAllDecided, ReadDecided, ReadAllDecided, is_open, formed as wellFormed, layout, proper as properNumbers};
+ghost use Rattle.std.specs.Prelude.{◌≡◌, ◌≤◌, ℕ, pos, length};
+ghost use Rattle.thread.specs.Answer.{told, kept, done, truth};
+ghost use Rattle.store.specs.Store.{Did, Fills};
+ghost use Rattle.pipe.specs.Post.{Starts, Writes, WritesAll, Reads, ReadsAll, Resets, Closes, ClearsReset, GetsSpace, GetsData, GetsSize, SaysEmpty, SaysFull, SaysOpen, SaysResetting, WriteDecided, WriteAllDecided, ReadDecided, ReadAllDecided, Decided, is_open, is_resetting, layout};
+ghost use Rattle.pipe.specs.Told.{Flagged, Checked, Looked, flags_of, verdict, short, moves_by, writes_by, reads_by, write_by, read_by, write_decision_by, read_decision_by, write_told, read_told, actual_told, used_told, write_number, read_number};
 
-use thread::{EAGAIN, ECANCELED, EINVAL, ENOMSG, EPIPE, OK};
+use Condition::{Closed, Open, OpenAndResetting, Resetting};
+use thread::Coded;
+use thread::Errno::{self, EAGAIN, ECANCELED, EINVAL, ENOMSG, EPIPE};
 
-// Open, and resetting too: Gale's FLAG_OPEN and FLAG_RESET are bits.
-pub const FLAG_OPEN: u32 = 1;
-
-pub const FLAG_RESET: u32 = 2;
-
-const BOTH: u32 = 3;
-
-// What the caller of a write or a read is to do, beside OK: Gale's WriteDecision and ReadDecision.
-pub const WAKE_READER: i32 = 1;
-
-pub const WAKE_WRITER: i32 = 1;
-
-pub const PEND: i32 = 2;
-
-fn least(a: u32, b: u32) -> u32
-    ensures { result ≡ min a b }
-{
-    if a < b { a } else { b }
+// By its flags: Gale's FLAG_OPEN and FLAG_RESET are bits.
+#[derive(Clone, Copy, Debug, PartialEq, Eq)]
+pub enum Condition {
+    Closed = 0,
+    Open = 1,
+    Resetting = 2,
+    OpenAndResetting = 3,
 }
 
-// Whether flags say open.
-fn opened(flags: u32) -> bool
-    ensures { result ≡ is_open flags }
-{
-    if flags == FLAG_OPEN {
-        return true;
+impl TryFrom<u32> for Condition {
+    type Error = Errno;
+
+    ghost try_from_gives = { Flagged };
+
+    fn try_from(flags: u32) -> Result<Condition, Errno> {
+        Ok(match flags {
+            0 => Closed,
+            1 => Open,
+            2 => Resetting,
+            3 => OpenAndResetting,
+            _ => return Err(EINVAL),
+        })
     }
-    flags == BOTH
 }
 
-// Whether the header and the buffer are as they should be.
-fn formed(h: &[u32], b: &[u8]) -> bool
-    ensures { result ≡ wellFormed h.now b.now }
-{
-    if h.len() < 4 {
-        return false;
+impl Condition {
+    fn is_open(self) -> bool
+        ensures { result ≡ is_open (flags_of self) }
+    {
+        matches!(self, Open | OpenAndResetting)
     }
-    if BOTH < h[3] {
-        return false;
+
+    fn is_resetting(self) -> bool
+        ensures { result ≡ is_resetting (flags_of self) }
+    {
+        matches!(self, Resetting | OpenAndResetting)
     }
-    ring_buf::formed(h, b)
 }
 
-// OK: open and empty; EINVAL: a size of 0, or above the buffer's length.
-pub fn init(h: &mut [u32], b: &[u8], size: u32) -> i32
-    ensures { Starts size h.old b.now result h.new }
+// A pipe's header, without the place of the first byte.
+#[derive(Clone, Copy)]
+struct Numbers {
+    size: u32,
+    used: u32,
+    condition: Condition,
+}
+
+impl Numbers {
+    fn new(used: u32, size: u32, flags: u32) -> Result<Numbers, Errno>
+        ensures { Checked used «size» flags result }
+    {
+        let condition = Condition::try_from(flags)?;
+        if size == 0 || size < used {
+            return Err(EINVAL);
+        }
+        Ok(Numbers {
+            size,
+            used,
+            condition,
+        })
+    }
+
+    fn at(h: &[u32], b: &[u8]) -> Result<Numbers, Errno>
+        ensures { Looked h.now b.now result }
+    {
+        let &[size, _, used, flags, ..] = h else {
+            return Err(EINVAL);
+        };
+        if !ring_buf::formed(h, b) {
+            return Err(EINVAL);
+        }
+        Numbers::new(used, size, flags)
+    }
+
+    // How many of n bytes go in, all or none if ALL; None: none now.
+    fn writes<const ALL: bool>(self, n: usize) -> Result<Option<u32>, Errno>
+        requires { self.used ≤ self.size }
+        ensures { verdict result ≡ writes_by ALL self n }
+    {
+        match self.condition {
+            _ if self.condition.is_resetting() => Err(ECANCELED),
+            Closed => Err(EPIPE),
+            Open if n == 0 => Err(ENOMSG),
+            _ => self.moves::<ALL>(n, self.size - self.used),
+        }
+    }
+
+    // How many of n bytes come out.
+    fn reads<const ALL: bool>(self, n: usize) -> Result<Option<u32>, Errno>
+        ensures { verdict result ≡ reads_by ALL self n }
+    {
+        match self.condition {
+            _ if self.condition.is_resetting() => Err(ECANCELED),
+            _ if n == 0 => Err(ENOMSG),
+            Closed if short::<ALL>(n, self.used) => Err(EPIPE),
+            _ => self.moves::<ALL>(n, self.used),
+        }
+    }
+
+    // How many of n bytes move, where most can.
+    fn moves<const ALL: bool>(self, n: usize, most: u32) -> Result<Option<u32>, Errno>
+        ensures { verdict result ≡ moves_by ALL self.size most n }
+    {
+        if !short::<ALL>(n, most) {
+            Ok(Some(n.min(most as usize) as u32))
+        } else if ALL && (self.size as usize) < n {
+            Err(EINVAL)
+        } else {
+            Ok(None)
+        }
+    }
+}
+
+// Whether too few of n bytes can move: none, or not all if ALL is asked.
+fn short<const ALL: bool>(n: usize, most: u32) -> bool
+    ensures { result ≡ short ALL n most }
 {
-    if h.len() < 4 {
-        return EINVAL;
-    }
-    if size == 0 {
-        return EINVAL;
-    }
-    if b.len() < seq::wide(size) {
-        return EINVAL;
+    most == 0 || ALL && (most as usize) < n
+}
+
+// Open and empty; EINVAL: a size of 0, or above the buffer's length.
+pub fn init(h: &mut [u32], b: &[u8], size: u32) -> Result<(), Errno>
+    ensures { Starts size h.old b.now (told done result) h.new }
+{
+    if h.len() < 4 || size == 0 || b.len() < size as usize {
+        return Err(EINVAL);
     }
     h[0] = size;
     h[1] = 0;
     h[2] = 0;
-    h[3] = FLAG_OPEN;
-    OK
+    h[3] = Open as u32;
+    Ok(())
 }
 
-// A write to a pipe that takes no byte.
-fn write_refusal(h: &[u32], b: &[u8], src: &[u8]) -> i32
-    requires { get_or h.now 3 0 ≡ 1 → 0 < length src.now → get_or h.now 0 0 ≤ get_or h.now 2 0 }
-    ensures { Writes src.now h.now b.now result h.now b.now }
+// Bytes go in: as many as there is room for, or ALL or none.
+fn put<const ALL: bool>(h: &mut [u32], b: &mut [u8], src: &[u8]) -> Result<u32, Errno>
+    ensures { Did layout (write_by ALL src.now) h.old b.old (told pos result) h.new b.new }
 {
-    if !formed(h, b) {
-        return EINVAL;
+    match Numbers::at(h, b)?.writes::<ALL>(src.len())? {
+        None => Err(EAGAIN),
+        Some(_) => ring_buf::put_n(h, b, src),
     }
-    let flags = h[3];
-    if FLAG_RESET <= flags {
-        return ECANCELED;
-    }
-    if flags == 0 {
-        return EPIPE;
-    }
-    if src.len() == 0 {
-        return ENOMSG;
-    }
-    EAGAIN
 }
 
 // How many bytes went in, the first of src. ECANCELED: resetting; EPIPE: closed; ENOMSG: src is empty; EAGAIN: full.
-pub fn write(h: &mut [u32], b: &mut [u8], src: &[u8]) -> i64
-    ensures { Writes src.now h.old b.old result h.new b.new }
+pub fn write(h: &mut [u32], b: &mut [u8], src: &[u8]) -> Result<u32, Errno>
+    ensures { Writes src.now h.old b.old (told pos result) h.new b.new }
 {
-    if h.len() < 4 {
-        return EINVAL as i64;
-    }
-    if h[3] == FLAG_OPEN {
-        if h[2] < h[0] {
-            if 0 < src.len() {
-                return ring_buf::put_n(h, b, src);
-            }
-        }
-    }
-    write_refusal(h, b, src) as i64
-}
-
-// A write to a pipe that does not take all n bytes.
-fn write_all_refusal(h: &[u32], b: &[u8], src: &[u8]) -> i32
-    requires { get_or h.now 3 0 ≡ 1 → 0 < length src.now → get_or h.now 0 0 - get_or h.now 2 0 < length src.now }
-    ensures { WritesAll src.now h.now b.now result h.now b.now }
-{
-    if !formed(h, b) {
-        return EINVAL;
-    }
-    let flags = h[3];
-    if FLAG_RESET <= flags {
-        return ECANCELED;
-    }
-    if flags == 0 {
-        return EPIPE;
-    }
-    let n = src.len();
-    if n < 1 {
-        return ENOMSG;
-    }
-    if seq::wide(h[0]) < n {
-        return EINVAL;
-    }
-    EAGAIN
+    put::<false>(h, b, src)
 }
 
 // All bytes of src went in: how many. Refusals as write; EAGAIN: there is no room for all now; EINVAL, too: they are more than the pipe can hold.
-pub fn write_all(h: &mut [u32], b: &mut [u8], src: &[u8]) -> i64
-    ensures { WritesAll src.now h.old b.old result h.new b.new }
+pub fn write_all(h: &mut [u32], b: &mut [u8], src: &[u8]) -> Result<u32, Errno>
+    ensures { WritesAll src.now h.old b.old (told pos result) h.new b.new }
 {
-    if h.len() < 4 {
-        return EINVAL as i64;
-    }
-    if h[3] == FLAG_OPEN {
-        let used = h[2];
-        if used < h[0] {
-            if 0 < src.len() {
-                if src.len() <= seq::wide(h[0] - used) {
-                    return ring_buf::put_n(h, b, src);
-                }
-            }
-        }
-    }
-    write_all_refusal(h, b, src) as i64
+    put::<true>(h, b, src)
 }
 
-// A read from a pipe that gives no byte.
-fn read_refusal(h: &[u32], b: &[u8], n: usize) -> i32
-    requires { get_or h.now 3 0 < 2 → 0 < n → get_or h.now 2 0 ≡ 0 }
-    ensures { reply layout (doRead n) h.now b.now ≡ refuse result }
+// Bytes come out, alike.
+fn get<const ALL: bool>(h: &mut [u32], b: &[u8], out: &mut [u8]) -> Result<u32, Errno>
+    ensures { Fills layout (read_by ALL (length out.old)) h.old b.now out.old (told pos result) h.new out.new }
 {
-    if !formed(h, b) {
-        return EINVAL;
+    match Numbers::at(h, b)?.reads::<ALL>(out.len())? {
+        None => Err(EAGAIN),
+        Some(_) => ring_buf::get_n(h, b, out),
     }
-    let flags = h[3];
-    if FLAG_RESET <= flags {
-        return ECANCELED;
-    }
-    if n == 0 {
-        return ENOMSG;
-    }
-    if flags == 0 {
-        return EPIPE;
-    }
-    EAGAIN
 }
 
 // How many bytes came out, to the first of out. ECANCELED: resetting; ENOMSG: out is empty; if nothing is held EPIPE: closed, EAGAIN: open.
-pub fn read(h: &mut [u32], b: &[u8], out: &mut [u8]) -> i64
-    ensures { Reads h.old b.now out.old result h.new out.new }
+pub fn read(h: &mut [u32], b: &[u8], out: &mut [u8]) -> Result<u32, Errno>
+    ensures { Reads h.old b.now out.old (told pos result) h.new out.new }
 {
-    if h.len() < 4 {
-        return EINVAL as i64;
-    }
-    if h[3] < FLAG_RESET {
-        if 0 < h[2] {
-            if 0 < out.len() {
-                return ring_buf::get_n(h, b, out);
-            }
-        }
-    }
-    read_refusal(h, b, out.len()) as i64
-}
-
-// A read from a pipe that does not give all n bytes.
-fn read_all_refusal(h: &[u32], b: &[u8], n: usize) -> i32
-    requires { get_or h.now 3 0 < 2 → 0 < n → get_or h.now 2 0 < n }
-    ensures { reply layout (doReadAll n) h.now b.now ≡ refuse result }
-{
-    if !formed(h, b) {
-        return EINVAL;
-    }
-    let flags = h[3];
-    if FLAG_RESET <= flags {
-        return ECANCELED;
-    }
-    if n < 1 {
-        return ENOMSG;
-    }
-    if flags == 0 {
-        return EPIPE;
-    }
-    if seq::wide(h[0]) < n {
-        return EINVAL;
-    }
-    EAGAIN
+    get::<false>(h, b, out)
 }
 
 // The whole of out was filled: how many bytes. Refusals as read; if fewer are held EPIPE: closed, EINVAL: out is longer than the pipe, EAGAIN.
-pub fn read_all(h: &mut [u32], b: &[u8], out: &mut [u8]) -> i64
-    ensures { ReadsAll h.old b.now out.old result h.new out.new }
+pub fn read_all(h: &mut [u32], b: &[u8], out: &mut [u8]) -> Result<u32, Errno>
+    ensures { ReadsAll h.old b.now out.old (told pos result) h.new out.new }
 {
-    if h.len() < 4 {
-        return EINVAL as i64;
-    }
-    if h[3] < FLAG_RESET {
-        if 0 < out.len() {
-            if out.len() <= seq::wide(h[2]) {
-                return ring_buf::get_n(h, b, out);
-            }
-        }
-    }
-    read_all_refusal(h, b, out.len()) as i64
+    get::<true>(h, b, out)
 }
 
-// OK: nothing is held, and it is resetting.
-pub fn reset(h: &mut [u32], b: &[u8]) -> i32
-    ensures { Resets h.old b.now result h.new }
+// Nothing is held, and it is resetting.
+pub fn reset(h: &mut [u32], b: &[u8]) -> Result<(), Errno>
+    ensures { Resets h.old b.now (told done result) h.new }
 {
-    if !formed(h, b) {
-        return EINVAL;
-    }
-    let flags = h[3];
+    let open = Numbers::at(h, b)?.condition.is_open();
     h[1] = 0;
     h[2] = 0;
-    if flags < FLAG_RESET {
-        h[3] = flags + FLAG_RESET;
-    }
-    OK
+    h[3] = if open { OpenAndResetting } else { Resetting } as u32;
+    Ok(())
 }
 
-// OK: neither open nor resetting; what is held stays.
-pub fn close(h: &mut [u32], b: &[u8]) -> i32
-    ensures { Closes h.old b.now result h.new }
+// Neither open nor resetting; what is held stays.
+pub fn close(h: &mut [u32], b: &[u8]) -> Result<(), Errno>
+    ensures { Closes h.old b.now (told done result) h.new }
 {
-    if !formed(h, b) {
-        return EINVAL;
-    }
-    h[3] = 0;
-    OK
+    Numbers::at(h, b)?;
+    h[3] = Closed as u32;
+    Ok(())
 }
 
-// OK: not resetting.
-pub fn clear_reset(h: &mut [u32], b: &[u8]) -> i32
-    ensures { ClearsReset h.old b.now result h.new }
+// Not resetting.
+pub fn clear_reset(h: &mut [u32], b: &[u8]) -> Result<(), Errno>
+    ensures { ClearsReset h.old b.now (told done result) h.new }
 {
-    if !formed(h, b) {
-        return EINVAL;
-    }
-    let flags = h[3];
-    if FLAG_RESET <= flags {
-        h[3] = flags - FLAG_RESET;
-    }
-    OK
+    let open = Numbers::at(h, b)?.condition.is_open();
+    h[3] = if open { Open } else { Closed } as u32;
+    Ok(())
 }
 
-pub fn space_get(h: &[u32], b: &[u8]) -> i64
-    ensures { GetsSpace h.now b.now result }
+pub fn space_get(h: &[u32], b: &[u8]) -> Result<u32, Errno>
+    ensures { GetsSpace h.now b.now (told pos result) }
 {
-    if !formed(h, b) {
-        return EINVAL as i64;
-    }
-    seq::signed(h[0] - h[2])
+    let pipe = Numbers::at(h, b)?;
+    Ok(pipe.size - pipe.used)
 }
 
 // How many bytes are held.
-pub fn data_get(h: &[u32], b: &[u8]) -> i64
-    ensures { GetsData h.now b.now result }
+pub fn data_get(h: &[u32], b: &[u8]) -> Result<u32, Errno>
+    ensures { GetsData h.now b.now (told pos result) }
 {
-    if !formed(h, b) {
-        return EINVAL as i64;
-    }
-    seq::signed(h[2])
+    Ok(Numbers::at(h, b)?.used)
 }
 
-pub fn size(h: &[u32], b: &[u8]) -> i64
-    ensures { GetsSize h.now b.now result }
+pub fn size(h: &[u32], b: &[u8]) -> Result<u32, Errno>
+    ensures { GetsSize h.now b.now (told pos result) }
 {
-    if !formed(h, b) {
-        return EINVAL as i64;
-    }
-    seq::signed(h[0])
+    Ok(Numbers::at(h, b)?.size)
 }
 
-// 1: nothing is held; 0.
-pub fn is_empty(h: &[u32], b: &[u8]) -> i32
-    ensures { SaysEmpty h.now b.now result }
+pub fn is_empty(h: &[u32], b: &[u8]) -> Result<bool, Errno>
+    ensures { SaysEmpty h.now b.now (told truth result) }
 {
-    if !formed(h, b) {
-        return EINVAL;
-    }
-    if h[2] == 0 { 1 } else { 0 }
+    Ok(Numbers::at(h, b)?.used == 0)
 }
 
-// 1: nothing is free; 0.
-pub fn is_full(h: &[u32], b: &[u8]) -> i32
-    ensures { SaysFull h.now b.now result }
+// Nothing is free.
+pub fn is_full(h: &[u32], b: &[u8]) -> Result<bool, Errno>
+    ensures { SaysFull h.now b.now (told truth result) }
 {
-    if !formed(h, b) {
-        return EINVAL;
-    }
-    if h[2] == h[0] { 1 } else { 0 }
+    let pipe = Numbers::at(h, b)?;
+    Ok(pipe.used == pipe.size)
 }
 
-pub fn is_open(h: &[u32], b: &[u8]) -> i32
-    ensures { SaysOpen h.now b.now result }
+pub fn is_open(h: &[u32], b: &[u8]) -> Result<bool, Errno>
+    ensures { SaysOpen h.now b.now (told truth result) }
 {
-    if !formed(h, b) {
-        return EINVAL;
-    }
-    if opened(h[3]) { 1 } else { 0 }
+    Ok(Numbers::at(h, b)?.condition.is_open())
 }
 
-pub fn is_resetting(h: &[u32], b: &[u8]) -> i32
-    ensures { SaysResetting h.now b.now result }
+pub fn is_resetting(h: &[u32], b: &[u8]) -> Result<bool, Errno>
+    ensures { SaysResetting h.now b.now (told truth result) }
 {
-    if !formed(h, b) {
-        return EINVAL;
-    }
-    if FLAG_RESET <= h[3] { 1 } else { 0 }
+    Ok(Numbers::at(h, b)?.condition.is_resetting())
 }
 
-// Whether a pipe can have these numbers.
-fn proper(used: u32, size: u32, flags: u32) -> bool
-    ensures { result ≡ properNumbers used «size» flags }
-{
-    if size == 0 {
-        return false;
-    }
-    if size < used {
-        return false;
-    }
-    flags <= BOTH
+// What a write is to do. WakeReader: a reader that waits is to be woken; WritePend: the caller is to wait.
+#[derive(Clone, Copy, Debug, PartialEq, Eq)]
+pub enum WriteDecision {
+    WriteOk = 0,
+    WakeReader = 1,
+    WritePend = 2,
 }
 
-// Refusals as write, whoever waits. OK; WAKE_READER: a reader that waits is to be woken. If nothing is held the bytes go straight to it, and nothing is
-// held then (request_len is to be at most what it asks for); else they go behind what is held, and it is to read. PEND: the caller is to wait.
+impl Coded for WriteDecision {
+    ghost number = { write_number };
+
+    fn code(self) -> i32 {
+        self as i32
+    }
+}
+
+// What a read is to do. WakeWriter: those that wait are to write, the first first, as far as there is room; ReadPend: the caller is to wait.
+#[derive(Clone, Copy, Debug, PartialEq, Eq)]
+pub enum ReadDecision {
+    ReadOk = 0,
+    WakeWriter = 1,
+    ReadPend = 2,
+}
+
+impl Coded for ReadDecision {
+    ghost number = { read_number };
+
+    fn code(self) -> i32 {
+        self as i32
+    }
+}
+
+// How many bytes move, and how many are held then.
+#[derive(Clone, Copy, Debug, PartialEq, Eq)]
+pub struct DecideResult<D> {
+    pub decision: D,
+    pub actual_bytes: u32,
+    pub new_used: u32,
+}
+
+pub type WriteDecideResult = DecideResult<WriteDecision>;
+
+pub type ReadDecideResult = DecideResult<ReadDecision>;
+
+fn write_decision<const ALL: bool>(
+    used: u32,
+    size: u32,
+    flags: u32,
+    request_len: u32,
+    has_reader: bool,
+) -> Result<WriteDecideResult, Errno>
+    ensures { (a u : ℕ) → Decided (write_decision_by ALL used «size» flags request_len has_reader) a u (told write_told result) (kept actual_told result a) (kept used_told result u) }
+{
+    let pipe = Numbers::new(used, size, flags)?;
+    Ok(match pipe.writes::<ALL>(request_len as usize)? {
+        None => DecideResult {
+            decision: WriteDecision::WritePend,
+            actual_bytes: 0,
+            new_used: used,
+        },
+        Some(n) if has_reader => DecideResult {
+            decision: WriteDecision::WakeReader,
+            actual_bytes: n,
+            new_used: if used == 0 { 0 } else { used + n },
+        },
+        Some(n) => DecideResult {
+            decision: WriteDecision::WriteOk,
+            actual_bytes: n,
+            new_used: used + n,
+        },
+    })
+}
+
+// Refusals as write, whoever waits. WakeReader: if nothing is held the bytes go straight to it, and nothing is held then (request_len is to be at
+// most what it asks for); else they go behind what is held, and it is to read.
 pub fn write_decide(
     used: u32,
     size: u32,
     flags: u32,
     request_len: u32,
     has_reader: bool,
-    actual_bytes: &mut u32,
-    new_used: &mut u32,
-) -> i32
-    ensures { WriteDecided used «size» flags request_len has_reader actual_bytes.old new_used.old result actual_bytes.new new_used.new }
+) -> Result<WriteDecideResult, Errno>
+    ensures { (a u : ℕ) → WriteDecided used «size» flags request_len has_reader a u (told write_told result) (kept actual_told result a) (kept used_told result u) }
 {
-    if !proper(used, size, flags) {
-        return EINVAL;
-    }
-    if FLAG_RESET <= flags {
-        return ECANCELED;
-    }
-    if flags == 0 {
-        return EPIPE;
-    }
-    if request_len == 0 {
-        return ENOMSG;
-    }
-    if used == size {
-        *actual_bytes = 0;
-        *new_used = used;
-        return PEND;
-    }
-    let n = least(request_len, size - used);
-    *actual_bytes = n;
-    if has_reader {
-        if used == 0 {
-            *new_used = 0;
-            return WAKE_READER;
-        }
-        *new_used = used + n;
-        return WAKE_READER;
-    }
-    *new_used = used + n;
-    OK
+    write_decision::<false>(used, size, flags, request_len, has_reader)
 }
 
-// All bytes or none: as write_decide, but PEND also where only a part of them has room, and EINVAL where they are more than the pipe can hold.
+// All bytes or none: as write_decide, but WritePend also where only a part of them has room, and EINVAL where they are more than the pipe can hold.
 pub fn write_all_decide(
     used: u32,
     size: u32,
     flags: u32,
     request_len: u32,
     has_reader: bool,
-    actual_bytes: &mut u32,
-    new_used: &mut u32,
-) -> i32
-    ensures { WriteAllDecided used «size» flags request_len has_reader actual_bytes.old new_used.old result actual_bytes.new new_used.new }
+) -> Result<WriteDecideResult, Errno>
+    ensures { (a u : ℕ) → WriteAllDecided used «size» flags request_len has_reader a u (told write_told result) (kept actual_told result a) (kept used_told result u) }
 {
-    if !proper(used, size, flags) {
-        return EINVAL;
-    }
-    if flags == FLAG_OPEN {
-        if size - used < request_len {
-            if size < request_len {
-                return EINVAL;
-            }
-            *actual_bytes = 0;
-            *new_used = used;
-            return PEND;
-        }
-    }
-    write_decide(
-        used,
-        size,
-        flags,
-        request_len,
-        has_reader,
-        actual_bytes,
-        new_used,
-    )
+    write_decision::<true>(used, size, flags, request_len, has_reader)
 }
 
-// Refusals as read, whoever waits. OK; WAKE_WRITER: then those that wait are to write, the first first, as far as there is room; PEND: the caller is to wait.
+fn read_decision<const ALL: bool>(
+    used: u32,
+    size: u32,
+    flags: u32,
+    request_len: u32,
+    has_writer: bool,
+) -> Result<ReadDecideResult, Errno>
+    ensures { (a u : ℕ) → Decided (read_decision_by ALL used «size» flags request_len has_writer) a u (told read_told result) (kept actual_told result a) (kept used_told result u) }
+{
+    let pipe = Numbers::new(used, size, flags)?;
+    Ok(match pipe.reads::<ALL>(request_len as usize)? {
+        None => DecideResult {
+            decision: ReadDecision::ReadPend,
+            actual_bytes: 0,
+            new_used: used,
+        },
+        Some(n) => DecideResult {
+            decision: if has_writer {
+                ReadDecision::WakeWriter
+            } else {
+                ReadDecision::ReadOk
+            },
+            actual_bytes: n,
+            new_used: used - n,
+        },
+    })
+}
+
+// Refusals as read, whoever waits.
 pub fn read_decide(
     used: u32,
     size: u32,
     flags: u32,
     request_len: u32,
     has_writer: bool,
-    actual_bytes: &mut u32,
-    new_used: &mut u32,
-) -> i32
-    ensures { ReadDecided used «size» flags request_len has_writer actual_bytes.old new_used.old result actual_bytes.new new_used.new }
+) -> Result<ReadDecideResult, Errno>
+    ensures { (a u : ℕ) → ReadDecided used «size» flags request_len has_writer a u (told read_told result) (kept actual_told result a) (kept used_told result u) }
 {
-    if !proper(used, size, flags) {
-        return EINVAL;
-    }
-    if FLAG_RESET <= flags {
-        return ECANCELED;
-    }
-    if request_len == 0 {
-        return ENOMSG;
-    }
-    if used == 0 {
-        if flags == 0 {
-            return EPIPE;
-        }
-        *actual_bytes = 0;
-        *new_used = used;
-        return PEND;
-    }
-    let n = least(request_len, used);
-    *actual_bytes = n;
-    *new_used = used - n;
-    if has_writer {
-        return WAKE_WRITER;
-    }
-    OK
+    read_decision::<false>(used, size, flags, request_len, has_writer)
 }
 
-// All bytes or none: as read_decide, but if fewer are held EPIPE: closed, EINVAL: they are more than the pipe can hold, PEND.
+// All bytes or none: as read_decide, but if fewer are held EPIPE: closed, EINVAL: they are more than the pipe can hold, ReadPend.
 pub fn read_all_decide(
     used: u32,
     size: u32,
     flags: u32,
     request_len: u32,
     has_writer: bool,
-    actual_bytes: &mut u32,
-    new_used: &mut u32,
-) -> i32
-    ensures { ReadAllDecided used «size» flags request_len has_writer actual_bytes.old new_used.old result actual_bytes.new new_used.new }
+) -> Result<ReadDecideResult, Errno>
+    ensures { (a u : ℕ) → ReadAllDecided used «size» flags request_len has_writer a u (told read_told result) (kept actual_told result a) (kept used_told result u) }
 {
-    if !proper(used, size, flags) {
-        return EINVAL;
-    }
-    if flags <= FLAG_OPEN {
-        if used < request_len {
-            if flags == 0 {
-                return EPIPE;
-            }
-            if size < request_len {
-                return EINVAL;
-            }
-            *actual_bytes = 0;
-            *new_used = used;
-            return PEND;
-        }
-    }
-    read_decide(
-        used,
-        size,
-        flags,
-        request_len,
-        has_writer,
-        actual_bytes,
-        new_used,
-    )
+    read_decision::<true>(used, size, flags, request_len, has_writer)
 }

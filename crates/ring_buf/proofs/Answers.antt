@@ -4,14 +4,14 @@ use mathlib.Core.Bool.{true}
 use mathlib.Core.List.{List, [], ◌∷◌, ◌++◌}
 use Prim.Native.Nat.{ℕ, ◌+◌, ◌-◌, ◌≤◌, ◌<◌, min}
 use native.Mathlib.Omega.{arith}
-use borrow.Author.Tests.{lt-ltb, le-ltb, lt-leb, le-leb}
+use borrow.Author.Tests.{lt-ltb, le-ltb, le-leb}
 use lib.IntN.{pos}
-use lib.ListN.{length, take, drop, get_or, set, length-set, length-take, length-drop}
-use lib.Seq.{take_all, take-take, paste, length-take-le, get_or-take, drop-cons}
+use lib.ListN.{length, take, drop, get_or, set, length-set, length-take, length-drop, length-append}
+use lib.Seq.{take_all, take_at, drop-append_seam, take-take, paste, length-take-le, get_or-take, drop-cons}
 use Rattle.seq.proofs.Words.{by-words}
 use Rattle.thread.specs.Code.{ok, eagain, einval}
 use Rattle.store.specs.Store.{accept, Becomes, looks}
-use Rattle.store.proofs.Laws.{any_some, any_none, did_no, did_yes, fills_yes, hands_no, hands_yes, looks-is, as_was, start-short, start_bad, start-made}
+use Rattle.store.proofs.Laws.{any_some, any_none, did_no, did_yes, fills_yes, hands_no, hands_yes, looks-is, as_was, start-made}
 use Rattle.ring_buf.specs.Ring.{Ring, wrap, turn, ring, append, leave}
 use Rattle.ring_buf.specs.Bytes.{sound, held, bytes, put, get, put_many, get_many, peek, reset, size_of, space_of, capacity_of, head_of, tail_of, empty, full}
 use Rattle.ring_buf.specs.Post.{Starts, Puts, Gets, PutsN, GetsN, PeeksAt, Resets}
@@ -98,9 +98,6 @@ module _ (h b : List ℕ) (s : Sound h b) where
       ∙ sym (turn-part t i 1 a B (omega (arith, long)) (omega (arith, long)) (e ∙ ap (wrap (t + i)) (sym long)) (omega (arith, w, long)))
       ∙ ap (take 1) (drop-cons B a 0 (omega (arith, w, long))) ∙ ap (λ (x : ℕ). x ∷ []) (get_or-take c b a 0 (omega (arith, w)))
 
-  pub get-empty : (x : ℕ) → n ≡ 0 → Gets h b x eagain h x
-  get-empty x e = hands_no bytes get h b x good (rw (any_none (held h b).held (omega (arith, held_is))) refl)
-
   pub get-done : (x a t' : ℕ) → 0 < n → a ≡ t → t' ≡ wrap (t + 1) c → Gets h b x ok (set (set h 1 t') 2 (n - 1)) (get_or b a 0)
   get-done x a t' f g e =
       let z : t + 0 ≡ t = omega arith in
@@ -117,18 +114,20 @@ module _ (h b : List ℕ) (s : Sound h b) where
       (rw (lt-ltb i (length (held h b).held) (omega (arith, held_is))) (ap (accept (held h b) ok) (sees i a f e))) (as_was bytes h b good)
 
   -- with the words as they were read
-  pub put_n-done : (c' t' n' k : ℕ) (l b' : List ℕ) → c' ≡ c → t' ≡ t → n' ≡ n → k ≡ min (length l) (c' - n') → length b' ≡ length b
-      → turn t' (take c' b') ≡ paste (turn t' (take c' b)) n' (take k l) (length (take k l)) → drop c' b' ≡ drop c' b → PutsN l h b (pos k) (set h 2 (n' + k)) b'
-  put_n-done c' t' n' k l b' x y z =
+  pub put_n-done : (c' t' n' k : ℕ) (l q : List ℕ) → c' ≡ c → t' ≡ t → n' ≡ n → k ≡ min (length l) (c' - n') → length q ≡ c'
+      → turn t' q ≡ paste (turn t' (take c' b)) n' (take k l) (length (take k l)) → PutsN l h b (pos k) (set h 2 (n' + k)) (q ++ drop c' b)
+  put_n-done c' t' n' k l q x y z =
       rw (x, y, z)
-      (λ e q w d.
+      (λ e f w.
       let m : length (take k l) ≡ k = length-take k l ∙ omega arith in
       let v : min (length l) (length (held h b).spare) ≡ k = ap (min (length l)) spare-is ∙ sym e in
       let u : take (length (take k l)) (take k l) ≡ take k l = take_all (length (take k l)) (take k l) (omega arith) in
+      let i : take c (q ++ drop c b) ≡ q = take_at q (drop c b) c f in
       did_yes bytes (put_many l) h b good (λ i. accept (append (take (v i) l) (held h b)) (pos (v i)) [])
-      (becomes h b (set h 2 (n + k)) b' c t (n + k) s.words (one-new (n + k)) s.start (omega arith) s.room q d
-      (ap (λ (j : ℕ). ring c t (n + j) (take c b')) (sym m)
-      ∙ appended c t n B long s.start s.size (length (take k l)) (take c b') (take k l) (omega arith) (omega arith) w
+      (becomes h b (set h 2 (n + k)) (q ++ drop c b) c t (n + k) s.words (one-new (n + k)) s.start (omega arith) s.room
+      (length-append q (drop c b) ∙ omega (arith, length-drop c b, s.room)) (ap (λ (i : ℕ). drop i (q ++ drop c b)) (sym f) ∙ drop-append_seam q (drop c b))
+      (ap (λ (j : ℕ). ring c t (n + j) (take c (q ++ drop c b))) (sym m)
+      ∙ appended c t n B long s.start s.size (length (take k l)) (take c (q ++ drop c b)) (take k l) (omega arith) (omega arith) (ap (turn t) i ∙ w)
       ∙ ap (λ (q : List ℕ). append q (held h b)) u)))
 
   pub get_n-done : (c' t' n' : ℕ) (o o' q : List ℕ) (k a : ℕ) → c' ≡ c → t' ≡ t → n' ≡ n → k ≡ min (length o) n' → a ≡ wrap (t' + k) c'
@@ -180,15 +179,6 @@ module _ (h b : List ℕ) (s : Sound h b) where
 
 -- a new ring
 module _ (h b : List ℕ) (c : ℕ) where
-  pub no_header : length h < 3 → Starts c h b einval h
-  no_header f = start-short f
-
-  pub no_capacity : 3 ≤ length h → c ≡ 0 → Starts c h b einval h
-  no_capacity k e = start_bad k (rw (le-ltb 0 c (omega arith)))
-
-  pub no_buffer : 3 ≤ length h → 0 < c → length b < c → Starts c h b einval h
-  no_buffer k f g = start_bad k (rw (lt-ltb 0 c f, lt-leb c (length b) g))
-
   pub made : 3 ≤ length h → 0 < c → c ≤ length b → Starts c h b ok (set (set (set h 0 c) 1 0) 2 0)
   made k f g =
       start-made k (rw (lt-ltb 0 c f, le-leb c (length b) g))

@@ -1,29 +1,10 @@
 -- What a copy by blocks leaves. Assumes nothing.
-use mathlib.Core.Path.{◌≡◌, refl, sym, ap, ◌∙◌}
+use mathlib.Core.Path.{◌≡◌, sym, ap, ◌∙◌}
 use mathlib.Core.List.{List, ◌++◌}
 use Prim.Native.Nat.{ℕ, ◌+◌, ◌-◌, ◌≤◌}
 use native.Mathlib.Omega.{arith}
-use lib.ListN.{length, take, drop, length-take, length-drop}
+use lib.ListN.{length, take, drop}
 use lib.Seq.{take-append-le, drop-append-add, take-take, take-add, drop-drop, length-take-le, paste}
-use borrow.Rule.Slice.PartMut.{put_mid}
-use Rattle.store.specs.Store.{Filled}
-use Rattle.ring_buf.proofs.Parts.{exact, lent_back}
-
--- a part of l that lies in it whole
-part : (l : List ℕ) (i k : ℕ) → i + k ≤ length l → length (take (i + k - i) (drop i l)) ≡ k
-part l i k h = length-take (i + k - i) (drop i l) ∙ omega (arith, length-drop i l)
-
--- bytes that were read into t, and then written
-pub through : (b s t t' q : List ℕ) (i : ℕ) → let k = length t in i + k ≤ length s → i + k ≤ length b
-    → Filled (take k (take (i + k - i) (drop i s))) t t'
-    → Filled (take (length (take (i + k - i) (drop i b))) t') (take (i + k - i) (drop i b)) q
-    → put_mid i (i + k - i) b q ≡ paste b i (drop i s) k
-through b s t t' q i f g v w =
-    let k = length t in
-    let z : i + k - i ≡ k = omega arith in
-    let x : t' ≡ take (i + k - i) (drop i s) = exact t (take (i + k - i) (drop i s)) t' (sym (part s i k f)) v in
-    let y : q ≡ t' = exact (take (i + k - i) (drop i b)) t' q (part b i k g ∙ sym (ap length x ∙ part s i k f)) w in
-    lent_back b (drop i s) q i (i + k) k refl (y ∙ x ∙ ap (λ (m : ℕ). take m (drop i s)) z)
 
 -- a block that starts within what is copied, or at its end, and ends at m: as many as m are copied
 pub onward : (d s d₁ d₂ : List ℕ) (j i k m : ℕ) → i ≤ j → j ≤ m → m ≤ length s → i + k ≡ m

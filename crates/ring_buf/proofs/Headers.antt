@@ -1,13 +1,16 @@
 -- A ring's header and buffer: what is tested, and what then holds. Assumes nothing.
-use mathlib.Core.Path.{◌≡◌, sym, ◌∙◌}
-use mathlib.Core.Bool.{Bool, true, false, cond}
+use mathlib.Core.Path.{◌≡◌, ◌∙◌}
+use mathlib.Core.Bool.{true, false, cond}
 use mathlib.Core.List.{List}
 use Prim.Native.Nat.{ℕ, ◌≤◌, ◌<◌}
-use borrow.Author.Tests.{lt-ltb, le-ltb, lt-leb, le-leb, leb-true, ltb-true}
+use borrow.Author.Tests.{lt-ltb, le-leb, leb-true, ltb-true}
 use lib.Dec.{ltb, leb}
 use lib.ListN.{length, get_or}
 use Rattle.store.proofs.Laws.{both_true}
+use native.Mathlib.Omega.{arith}
 use Rattle.ring_buf.specs.Bytes.{sound}
+use Rattle.ring_buf.specs.Post.{Words}
+use Rattle.ring_buf.specs.declared.header.RingBuf.{RingBuf}
 
 module _ (h b : List ℕ) where
   pub record Sound : Type 0 where
@@ -15,15 +18,6 @@ module _ (h b : List ℕ) where
     pub start : get_or h 1 0 < get_or h 0 0
     pub size : get_or h 2 0 ≤ get_or h 0 0
     pub room : get_or h 0 0 ≤ length b
-
-  pub no_words : length h < 3 → sound h b ≡ false
-  no_words f = rw (lt-leb 3 (length h) f)
-
-  pub no_start : 3 ≤ length h → get_or h 0 0 ≤ get_or h 1 0 → sound h b ≡ false
-  no_start w f = rw (le-leb 3 (length h) w, le-ltb (get_or h 1 0) (get_or h 0 0) f)
-
-  pub no_size : 3 ≤ length h → get_or h 1 0 < get_or h 0 0 → get_or h 0 0 < get_or h 2 0 → sound h b ≡ false
-  no_size w s f = rw (le-leb 3 (length h) w, lt-ltb (get_or h 1 0) (get_or h 0 0) s, lt-leb (get_or h 2 0) (get_or h 0 0) f)
 
   pub is-room : 3 ≤ length h → get_or h 1 0 < get_or h 0 0 → get_or h 2 0 ≤ get_or h 0 0 → sound h b ≡ leb (get_or h 0 0) (length b)
   is-room w s f = rw (le-leb 3 (length h) w, lt-ltb (get_or h 1 0) (get_or h 0 0) s, le-leb (get_or h 2 0) (get_or h 0 0) f)
@@ -44,9 +38,6 @@ module _ (h b : List ℕ) where
   pub is-sound : Sound → sound h b ≡ true
   is-sound s = is-room s.words s.start s.size ∙ le-leb (get_or h 0 0) (length b) s.room
 
-  -- by the answer of `formed`
-  pub passed : {r : Bool} → r ≡ sound h b → r ≡ true → Sound
-  passed e f = from-sound (sym e ∙ f)
-
-  pub failed : {r : Bool} → r ≡ sound h b → r ≡ false → sound h b ≡ false
-  failed e f = sym e ∙ f
+-- the words that were read
+pub read-sound : {h b : List ℕ} {r : RingBuf} → Words h b r → Sound h b
+read-sound {r = r} w = record { words = w.words; start = omega (arith, r.start); size = omega (arith, r.within); room = omega arith }

@@ -3,6 +3,7 @@ pub mod Parts
 pub mod Copying
 pub mod Headers
 pub mod Answers
+pub mod Getters
 pub mod Counting
 pub mod Determined
 pub mod Calls

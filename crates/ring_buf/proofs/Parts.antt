@@ -1,21 +1,14 @@
 -- What a copy leaves. Assumes nothing.
 use mathlib.Core.Path.{◌≡◌, refl, sym, ap, ◌∙◌}
 use mathlib.Core.List.{List, [], ◌++◌, append_assoc, append-nil}
-use Prim.Native.Nat.{ℕ, suc, ◌+◌, ◌-◌, ◌≤◌, ◌<◌, min}
+use Prim.Native.Nat.{ℕ, ◌+◌, ◌-◌, ◌≤◌, ◌<◌, min}
 use native.Mathlib.Omega.{arith}
-use lib.ListN.{length, take, drop, get_or, set, length-take, length-drop, length-append, drop_of_length-le}
-use lib.Seq.{take-suc, drop-cons, set_at, append_snoc, take_all, take-take, take_at, take-append-add, drop-length, length-take-le, paste, length-paste}
+use lib.ListN.{length, take, drop, length-take, length-drop, length-append, drop_of_length-le}
+use lib.Seq.{take_all, take-take, take_at, take-append-add, drop-length, length-take-le, paste, length-paste}
 use borrow.Rule.Slice.PartMut.{put_mid, post_of, Post-is}
 use Rattle.store.specs.Store.{Filled}
 use Rattle.ring_buf.specs.Ring.{wrap, turn}
 use Rattle.ring_buf.proofs.Rings.{by-lt, wrap-low, wrap-high, wrap-wrap, drop-take, turned, length-turn, turn-paste, turn-part, paste-paste, take_within, drop-within}
-
--- one more is copied
-pub copied : (d s : List ℕ) (i : ℕ) → i < length s → i < length d → set (take i s ++ drop i d) i (get_or s i 0) ≡ take (suc i) s ++ drop (suc i) d
-copied d s i hs hd =
-    ap (λ (l : List ℕ). set (take i s ++ l) i (get_or s i 0)) (drop-cons d i 0 hd)
-    ∙ set_at (take i s) (get_or d i 0) (drop (suc i) d) (get_or s i 0) i (length-take-le i s (omega arith))
-    ∙ sym (append_snoc (take i s) (get_or s i 0) (drop (suc i) d)) ∙ ap (λ (l : List ℕ). l ++ drop (suc i) d) (sym (take-suc s i 0 hs))
 
 pub take-least : (m : ℕ) (s : List ℕ) → take m s ≡ take (min m (length s)) s
 take-least m s =
@@ -164,3 +157,13 @@ module _ (c t : ℕ) (b o : List ℕ) (h : t < c) (room : c ≤ length b) where
       let is₂ : q₂ ≡ take k b = exact (take (length o₁ - m) (drop m o₁)) (take k b) q₂ n₂ w₂ in
       let v : m + k ≡ length o = omega arith in
       second_back o q₁ q₂ m l₁ (omega (arith, ap length is₂, length-take k b)) ∙ (λ i. is₁ i ++ is₂ i) ∙ drained-both c t m k b (omega arith) (omega arith) room ∙ ap (λ (j : ℕ). take j (turn t (take c b))) v
+
+-- of a ring that is its whole buffer
+pub round_all : (t u : ℕ) (b b' s : List ℕ)
+    → (turn t (take (length b) b') ≡ paste (turn t (take (length b) b)) u s (length s)) × (drop (length b) b' ≡ drop (length b) b)
+    → turn t b' ≡ paste (turn t b) u s (length s)
+round_all t u b b' s (e, d) =
+    let l : length b' ≤ length b = omega (arith, length-drop (length b) b', length-drop (length b) b, ap length d) in
+    let x : take (length b) b' ≡ b' = take_all (length b) b' l in
+    let y : take (length b) b ≡ b = take_all (length b) b (omega arith) in
+    ap (turn t) (sym x) ∙ e ∙ ap (λ (l : List ℕ). paste (turn t l) u s (length s)) y

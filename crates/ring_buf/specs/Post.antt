@@ -1,5 +1,8 @@
 -- What each function of the ring buffer does.
-use Rattle.std.specs.Prelude.{◌≡◌, Bool, List, ℕ, ℤ, length, take}
+use Rattle.std.specs.Prelude.{◌≡◌, Bool, false, List, ℕ, ◌≤◌, ℤ, length, take, get_or, Result, Ok, Err}
+use Rattle.thread.specs.declared.Errno.{Errno}
+use Rattle.thread.specs.declared.Errno.TheVariants.{EINVAL}
+use Rattle.ring_buf.specs.declared.header.RingBuf.{RingBuf}
 use Rattle.store.specs.Store.{Did, looks, Filled, Fills, Hands, Started}
 use Rattle.ring_buf.specs.Ring.{wrap}
 use Rattle.ring_buf.specs.Counters.{offset, claimed, finishes, room, amount}
@@ -16,6 +19,18 @@ abbrev pub Copies : List ℕ → List ℕ → List ℕ → Type 0
 Copies dst src dst' = Filled (take (length dst) src) dst dst'
 
 -- ---- of a ring
+
+-- the words of a header that is as it should be, with the buffer
+pub record Words (h b : List ℕ) (r : RingBuf) : Type 0 where
+  pub words : 3 ≤ length h
+  pub capacity : r.capacity ≡ get_or h 0 0
+  pub head : r.head ≡ get_or h 1 0
+  pub size : r.size ≡ get_or h 2 0
+  pub room : r.capacity ≤ length b
+
+abbrev pub Reads : List ℕ → List ℕ → Result RingBuf Errno → Type 0
+Reads h b (Ok r) = Words h b r
+Reads h b (Err e) = (sound h b ≡ false) × (e ≡ EINVAL)
 
 abbrev pub SaysFormed : List ℕ → List ℕ → Bool → Type 0
 SaysFormed h b r = r ≡ sound h b

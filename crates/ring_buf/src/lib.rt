@@ -2,45 +2,22 @@
 // buffer, whose first bytes are the ring.
 #![tactic(auto)]
 
-ghost use Rattle.std.specs.Prelude.{◌≡◌, ◌+◌, ◌%◌, ◌<◌, ◌≤◌, min, length, take, drop};
+ghost use Rattle.std.specs.Prelude.{◌≡◌, ℕ, pos, ◌+◌, ◌%◌, ◌<◌, ◌≤◌, min, length, take, drop};
 ghost use Rattle.std.proofs.Math.Seq.{paste};
 ghost use Rattle.ring_buf.specs.Ring.{wrap, turn};
-ghost use Rattle.ring_buf.specs.Counters.{difference};
-ghost use Rattle.ring_buf.specs.Post.{Places, Copies, SaysFormed, Starts, Puts, Gets, PutsN, GetsN, PeeksAt, Resets, GetsSize, GetsSpace, GetsCapacity, SaysEmpty, SaysFull, GetsHead, GetsTail, ClaimDecided, FinishDecided, SpaceGetDecided, SizeGetDecided};
+ghost use Rattle.thread.specs.Answer.{told, done, truth, kept, itself};
+ghost use Rattle.ring_buf.specs.Post.{Reads, Places, Copies, SaysFormed, Starts, Puts, Gets, PutsN, GetsN, PeeksAt, Resets, GetsSize, GetsSpace, GetsCapacity, SaysEmpty, SaysFull, GetsHead, GetsTail, ClaimDecided, FinishDecided, SpaceGetDecided, SizeGetDecided};
 
-use thread::{EAGAIN, EINVAL, OK};
+mod header;
 
-fn least(a: usize, b: usize) -> usize
-    ensures { result ≡ min a b }
-{
-    if a < b { a } else { b }
-}
+use header::RingBuf;
+use thread::Errno::{self, EAGAIN, EINVAL};
 
 // A place below twice n, round the end of n.
 pub fn place(x: usize, n: usize) -> usize
     ensures { Places x n result }
 {
     if x < n { x } else { x - n }
-}
-
-// The place after t, round the end of n.
-fn step(t: u32, n: u32) -> u32
-    requires { t < n }
-    ensures { result ≡ wrap (t + 1) n }
-{
-    if t + 1 < n { t + 1 } else { 0 }
-}
-
-// The first of src, as many as dst has room for, go to the start of dst, one by one.
-fn plain(dst: &mut [u8], src: &[u8])
-    ensures { Copies dst.old src.now dst.new }
-{
-    let n = least(src.len(), dst.len());
-    let mut i = 0;
-    while i < n {
-        dst[i] = src[i];
-        i += 1;
-    }
 }
 
 // The bytes of src from i on, as many as t has room for, go to the same places of dst. All are read into t before one is
@@ -50,12 +27,13 @@ fn block(dst: &mut [u8], src: &[u8], i: usize, t: &mut [u8])
     ensures { dst.new ≡ paste dst.old i (drop i src.now) (length t.old) }
 {
     let e = i + t.len();
-    plain(t, &src[i..e]);
-    plain(&mut dst[i..e], t);
+    t.copy_from_slice(&src[i..e]);
+    dst[i..e].copy_from_slice(t);
 }
 
 // The first of src, as many as dst has room for, go to the start of dst, in blocks as long as t. There are n of them; the last
-// block ends at n, over what the one before it wrote.
+// block ends at n, over what the one before it wrote. With a const parameter and step_by, LLVM unrolls the loop: then put_n and
+// get_n of 64 bytes take 176 instructions, and now 139.
 fn blocks(dst: &mut [u8], src: &[u8], n: usize, t: &mut [u8])
     requires { (0 < length t.old) × ((length t.old ≤ n) × (n ≡ min (length src.now) (length dst.old))) }
     ensures { Copies dst.old src.now dst.new }
@@ -73,279 +51,213 @@ fn blocks(dst: &mut [u8], src: &[u8], n: usize, t: &mut [u8])
 pub fn copy(dst: &mut [u8], src: &[u8])
     ensures { Copies dst.old src.now dst.new }
 {
-    let n = least(src.len(), dst.len());
+    let n = src.len().min(dst.len());
     if 32 <= n {
-        let mut t = [0; 32];
-        blocks(dst, src, n, &mut t);
-        return;
-    }
-    if 16 <= n {
-        let mut t = [0; 16];
-        blocks(dst, src, n, &mut t);
-        return;
-    }
-    if 8 <= n {
-        let mut t = [0; 8];
-        blocks(dst, src, n, &mut t);
-        return;
-    }
-    if 4 <= n {
-        let mut t = [0; 4];
-        blocks(dst, src, n, &mut t);
-        return;
-    }
-    if 2 <= n {
-        let mut t = [0; 2];
-        blocks(dst, src, n, &mut t);
-        return;
-    }
-    if n == 1 {
+        blocks(dst, src, n, &mut [0; 32]);
+    } else if 16 <= n {
+        blocks(dst, src, n, &mut [0; 16]);
+    } else if 8 <= n {
+        blocks(dst, src, n, &mut [0; 8]);
+    } else if 4 <= n {
+        blocks(dst, src, n, &mut [0; 4]);
+    } else if 2 <= n {
+        blocks(dst, src, n, &mut [0; 2]);
+    } else if n == 1 {
         dst[0] = src[0];
     }
 }
 
-// Writes src into the first c bytes of b, round their end, from the place t + u on.
-fn fill(b: &mut [u8], c: usize, t: usize, u: usize, src: &[u8])
-    requires { (t < c) × ((u + length src.now ≤ c) × (c ≤ length b.old)) }
-    ensures b_after { turn t (take c b.new) ≡ paste (turn t (take c b.old)) u src.now (length src.now) }
-    ensures b_unchanged { drop c b.new ≡ drop c b.old }
+// Writes src into b, round its end, from the place t + u on. It is not inlined, so that put_n is, whose Result then crosses in no
+// memory: else those take 171.
+#[inline(never)]
+fn fill(b: &mut [u8], t: usize, u: usize, src: &[u8])
+    requires { (t < length b.old) × (u + length src.now ≤ length b.old) }
+    ensures { turn t b.new ≡ paste (turn t b.old) u src.now (length src.now) }
 {
-    let a = place(t + u, c);
+    let a = place(t + u, b.len());
     let n = src.len();
-    let m = c - a;
+    let m = b.len() - a;
     if n <= m {
-        let e = a + n;
-        copy(&mut b[a..e], src);
-        return;
+        copy(&mut b[a..a + n], src);
+    } else {
+        copy(&mut b[a..], &src[..m]);
+        copy(&mut b[..n - m], &src[m..]);
     }
-    copy(&mut b[a..c], &src[..m]);
-    let k = n - m;
-    copy(&mut b[..k], &src[m..]);
 }
 
-// Reads out full from the first c bytes of b, round their end, from the place t on.
-fn drain(b: &[u8], c: usize, t: usize, out: &mut [u8])
-    requires { (t < c) × ((length out.old ≤ c) × (c ≤ length b.now)) }
-    ensures { out.new ≡ take (length out.old) (turn t (take c b.now)) }
+// Reads out full from b, round its end, from the place t on.
+#[inline(never)]
+fn drain(b: &[u8], t: usize, out: &mut [u8])
+    requires { (t < length b.now) × (length out.old ≤ length b.now) }
+    ensures { out.new ≡ take (length out.old) (turn t b.now) }
 {
     let n = out.len();
-    let m = c - t;
+    let m = b.len() - t;
     if n <= m {
-        let e = t + n;
-        copy(out, &b[t..e]);
-        return;
+        copy(out, &b[t..t + n]);
+    } else {
+        copy(&mut out[..m], &b[t..]);
+        copy(&mut out[m..], &b[..n - m]);
     }
-    copy(&mut out[..m], &b[t..c]);
-    let k = n - m;
-    copy(&mut out[m..], &b[..k]);
+}
+
+// The header's words, if it and the buffer are as they should be.
+fn read(h: &[u32], b: &[u8]) -> Result<RingBuf, Errno>
+    ensures { Reads h.now b.now result }
+{
+    match *h {
+        [capacity, head, size, ..]
+            if head < capacity && size <= capacity && capacity as usize <= b.len() => {
+            Ok(RingBuf {
+                capacity,
+                head,
+                size,
+            })
+        }
+        _ => Err(EINVAL),
+    }
 }
 
 // Whether the header and the buffer are as they should be.
 pub fn formed(h: &[u32], b: &[u8]) -> bool
     ensures { SaysFormed h.now b.now result }
 {
-    if h.len() < 3 {
-        return false;
-    }
-    let c = h[0];
-    if c <= h[1] {
-        return false;
-    }
-    if c < h[2] {
-        return false;
-    }
-    seq::wide(c) <= b.len()
+    read(h, b).is_ok()
 }
 
-// OK; EINVAL: a capacity of 0, or above the buffer's length.
-pub fn init(h: &mut [u32], b: &[u8], capacity: u32) -> i32
-    ensures { Starts capacity h.old b.now result h.new }
+// EINVAL: a capacity of 0, or above the buffer's length.
+pub fn init(h: &mut [u32], b: &[u8], capacity: u32) -> Result<(), Errno>
+    ensures { Starts capacity h.old b.now (told done result) h.new }
 {
-    if h.len() < 3 {
-        return EINVAL;
-    }
-    if capacity == 0 {
-        return EINVAL;
-    }
-    if b.len() < seq::wide(capacity) {
-        return EINVAL;
+    if h.len() < 3 || capacity == 0 || b.len() < capacity as usize {
+        return Err(EINVAL);
     }
     h[0] = capacity;
     h[1] = 0;
     h[2] = 0;
-    OK
+    Ok(())
 }
 
-// OK: the byte is behind those that were held; EAGAIN: it is full.
-pub fn put(h: &mut [u32], b: &mut [u8], value: u8) -> i32
-    ensures { Puts value h.old b.old result h.new b.new }
+// The byte goes behind those that are held; EAGAIN: it is full.
+pub fn put(h: &mut [u32], b: &mut [u8], value: u8) -> Result<(), Errno>
+    ensures { Puts value h.old b.old (told done result) h.new b.new }
 {
-    if !formed(h, b) {
-        return EINVAL;
+    let r = read(h, b)?;
+    if r.size == r.capacity {
+        return Err(EAGAIN);
     }
-    let c = h[0];
-    let n = h[2];
-    if n == c {
-        return EAGAIN;
-    }
-    let a = place(seq::wide(h[1]) + seq::wide(n), seq::wide(c));
-    b[a] = value;
-    h[2] = n + 1;
-    OK
+    b[r.at(r.size) as usize] = value;
+    h[2] = r.size + 1;
+    Ok(())
 }
 
-// OK: the first byte came out; EAGAIN: it is empty.
-pub fn get(h: &mut [u32], b: &[u8], value: &mut u8) -> i32
-    ensures { Gets h.old b.now value.old result h.new value.new }
+// The first byte leaves; EAGAIN: it is empty.
+pub fn get(h: &mut [u32], b: &[u8]) -> Result<u8, Errno>
+    ensures { (x : ℕ) → Gets h.old b.now x (told done result) h.new (kept itself result x) }
 {
-    if !formed(h, b) {
-        return EINVAL;
+    let r = read(h, b)?;
+    if r.size == 0 {
+        return Err(EAGAIN);
     }
-    let n = h[2];
-    if n == 0 {
-        return EAGAIN;
-    }
-    let t = h[1];
-    *value = b[seq::wide(t)];
-    h[1] = step(t, h[0]);
-    h[2] = n - 1;
-    OK
+    h[1] = r.at(1);
+    h[2] = r.size - 1;
+    Ok(b[r.head as usize])
 }
 
 // How many went in, the first of src.
-pub fn put_n(h: &mut [u32], b: &mut [u8], src: &[u8]) -> i64
-    ensures { PutsN src.now h.old b.old result h.new b.new }
+pub fn put_n(h: &mut [u32], b: &mut [u8], src: &[u8]) -> Result<u32, Errno>
+    ensures { PutsN src.now h.old b.old (told pos result) h.new b.new }
 {
-    if !formed(h, b) {
-        return EINVAL as i64;
-    }
-    let c = seq::wide(h[0]);
-    let n = seq::wide(h[2]);
-    let k = least(src.len(), c - n);
-    fill(b, c, seq::wide(h[1]), n, &src[..k]);
-    h[2] = (n + k) as u32;
-    k as i64
+    let r = read(h, b)?;
+    let k = src.len().min((r.capacity - r.size) as usize);
+    h[2] = r.size + k as u32;
+    fill(
+        &mut b[..r.capacity as usize],
+        r.head as usize,
+        r.size as usize,
+        &src[..k],
+    );
+    Ok(k as u32)
 }
 
 // How many came out, to the first of out.
-pub fn get_n(h: &mut [u32], b: &[u8], out: &mut [u8]) -> i64
-    ensures { GetsN h.old b.now out.old result h.new out.new }
+pub fn get_n(h: &mut [u32], b: &[u8], out: &mut [u8]) -> Result<u32, Errno>
+    ensures { GetsN h.old b.now out.old (told pos result) h.new out.new }
 {
-    if !formed(h, b) {
-        return EINVAL as i64;
-    }
-    let c = seq::wide(h[0]);
-    let t = seq::wide(h[1]);
-    let n = seq::wide(h[2]);
-    let k = least(out.len(), n);
-    drain(b, c, t, &mut out[..k]);
-    h[1] = place(t + k, c) as u32;
-    h[2] = (n - k) as u32;
-    k as i64
+    let r = read(h, b)?;
+    let k = out.len().min(r.size as usize);
+    h[1] = r.at(k as u32);
+    h[2] = r.size - k as u32;
+    drain(&b[..r.capacity as usize], r.head as usize, &mut out[..k]);
+    Ok(k as u32)
 }
 
-// OK: the byte at idx is told; EINVAL: fewer are held.
-pub fn peek_at(h: &[u32], b: &[u8], idx: u32, value: &mut u8) -> i32
-    ensures { PeeksAt idx h.now b.now value.old result value.new }
+// The byte behind idx others; EINVAL: fewer are held.
+pub fn peek_at(h: &[u32], b: &[u8], idx: u32) -> Result<u8, Errno>
+    ensures { (x : ℕ) → PeeksAt idx h.now b.now x (told done result) (kept itself result x) }
 {
-    if !formed(h, b) {
-        return EINVAL;
+    let r = read(h, b)?;
+    if r.size <= idx {
+        return Err(EINVAL);
     }
-    if h[2] <= idx {
-        return EINVAL;
-    }
-    *value = b[place(seq::wide(h[1]) + seq::wide(idx), seq::wide(h[0]))];
-    OK
+    Ok(b[r.at(idx) as usize])
 }
 
-// OK: it is empty, and the next byte goes to the buffer's start.
-pub fn reset(h: &mut [u32], b: &[u8]) -> i32
-    ensures { Resets h.old b.now result h.new }
+// It is empty then, and the next byte goes to the buffer's start.
+pub fn reset(h: &mut [u32], b: &[u8]) -> Result<(), Errno>
+    ensures { Resets h.old b.now (told done result) h.new }
 {
-    if !formed(h, b) {
-        return EINVAL;
-    }
+    read(h, b)?;
     h[1] = 0;
     h[2] = 0;
-    OK
+    Ok(())
 }
 
-pub fn size_get(h: &[u32], b: &[u8]) -> i64
-    ensures { GetsSize h.now b.now result }
+pub fn size_get(h: &[u32], b: &[u8]) -> Result<u32, Errno>
+    ensures { GetsSize h.now b.now (told pos result) }
 {
-    if !formed(h, b) {
-        return EINVAL as i64;
-    }
-    seq::signed(h[2])
+    Ok(read(h, b)?.size)
 }
 
-pub fn space_get(h: &[u32], b: &[u8]) -> i64
-    ensures { GetsSpace h.now b.now result }
+pub fn space_get(h: &[u32], b: &[u8]) -> Result<u32, Errno>
+    ensures { GetsSpace h.now b.now (told pos result) }
 {
-    if !formed(h, b) {
-        return EINVAL as i64;
-    }
-    seq::signed(h[0] - h[2])
+    let r = read(h, b)?;
+    Ok(r.capacity - r.size)
 }
 
-pub fn capacity_get(h: &[u32], b: &[u8]) -> i64
-    ensures { GetsCapacity h.now b.now result }
+pub fn capacity_get(h: &[u32], b: &[u8]) -> Result<u32, Errno>
+    ensures { GetsCapacity h.now b.now (told pos result) }
 {
-    if !formed(h, b) {
-        return EINVAL as i64;
-    }
-    seq::signed(h[0])
+    Ok(read(h, b)?.capacity)
 }
 
-// 1: nothing is held; 0.
-pub fn is_empty(h: &[u32], b: &[u8]) -> i32
-    ensures { SaysEmpty h.now b.now result }
+pub fn is_empty(h: &[u32], b: &[u8]) -> Result<bool, Errno>
+    ensures { SaysEmpty h.now b.now (told truth result) }
 {
-    if !formed(h, b) {
-        return EINVAL;
-    }
-    if h[2] == 0 { 1 } else { 0 }
+    Ok(read(h, b)?.size == 0)
 }
 
-// 1: nothing is free; 0.
-pub fn is_full(h: &[u32], b: &[u8]) -> i32
-    ensures { SaysFull h.now b.now result }
+pub fn is_full(h: &[u32], b: &[u8]) -> Result<bool, Errno>
+    ensures { SaysFull h.now b.now (told truth result) }
 {
-    if !formed(h, b) {
-        return EINVAL;
-    }
-    if h[2] == h[0] { 1 } else { 0 }
+    let r = read(h, b)?;
+    Ok(r.size == r.capacity)
 }
 
 // The place of the first byte.
-pub fn head_get(h: &[u32], b: &[u8]) -> i64
-    ensures { GetsHead h.now b.now result }
+pub fn head_get(h: &[u32], b: &[u8]) -> Result<u32, Errno>
+    ensures { GetsHead h.now b.now (told pos result) }
 {
-    if !formed(h, b) {
-        return EINVAL as i64;
-    }
-    seq::signed(h[1])
+    Ok(read(h, b)?.head)
 }
 
 // The place to which the next byte goes.
-pub fn tail_get(h: &[u32], b: &[u8]) -> i64
-    ensures { GetsTail h.now b.now result }
+pub fn tail_get(h: &[u32], b: &[u8]) -> Result<u32, Errno>
+    ensures { GetsTail h.now b.now (told pos result) }
 {
-    if !formed(h, b) {
-        return EINVAL as i64;
-    }
-    place(seq::wide(h[1]) + seq::wide(h[2]), seq::wide(h[0])) as i64
-}
-
-// a - b, modulo 2^32.
-fn minus(a: u32, b: u32) -> u32
-    ensures { result ≡ difference a b }
-{
-    if b <= a {
-        a - b
-    } else {
-        a + (4294967295 - b) + 1
-    }
+    let r = read(h, b)?;
+    Ok(r.at(r.size))
 }
 
 // d modulo n; most often d is below n already.
@@ -356,38 +268,46 @@ fn remainder(d: u32, n: u32) -> u32
     if d < n { d } else { d % n }
 }
 
-// How many bytes can be claimed in one piece, which starts at the offset.
-pub fn claim_decide(head: u32, base: u32, buf_size: u32, requested: u32, offset: &mut u32) -> u32
-    ensures { ClaimDecided head base buf_size requested result offset.new }
+// How many bytes can be claimed in one piece, and where it starts.
+#[derive(Clone, Copy, Debug, PartialEq, Eq)]
+pub struct ClaimDecision {
+    pub claim_size: u32,
+    pub buffer_offset: u32,
+}
+
+pub fn claim_decide(head: u32, base: u32, buf_size: u32, requested: u32) -> ClaimDecision
+    ensures { ClaimDecided head base buf_size requested result.claim_size result.buffer_offset }
 {
     if buf_size == 0 {
-        *offset = 0;
-        return 0;
+        return ClaimDecision {
+            claim_size: 0,
+            buffer_offset: 0,
+        };
     }
-    let a = remainder(minus(head, base), buf_size);
-    *offset = a;
-    let m = buf_size - a;
-    if requested <= m { requested } else { m }
+    let buffer_offset = remainder(head.wrapping_sub(base), buf_size);
+    ClaimDecision {
+        claim_size: requested.min(buf_size - buffer_offset),
+        buffer_offset,
+    }
 }
 
 // Whether so many bytes were claimed and not yet finished.
 pub fn finish_decide(head: u32, tail: u32, size: u32) -> bool
     ensures { FinishDecided head tail size result }
 {
-    size <= minus(head, tail)
+    size <= head.wrapping_sub(tail)
 }
 
 // How many bytes are free.
 pub fn space_get_decide(put_head: u32, get_tail: u32, buf_size: u32) -> u32
     ensures { SpaceGetDecided put_head get_tail buf_size result }
 {
-    let d = minus(put_head, get_tail);
-    if buf_size < d { 0 } else { buf_size - d }
+    buf_size.saturating_sub(put_head.wrapping_sub(get_tail))
 }
 
 // How many bytes are held.
 pub fn size_get_decide(put_tail: u32, get_head: u32) -> u32
     ensures { SizeGetDecided put_tail get_head result }
 {
-    minus(put_tail, get_head)
+    put_tail.wrapping_sub(get_head)
 }

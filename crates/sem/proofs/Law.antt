@@ -7,7 +7,7 @@ use native.Mathlib.Omega.{arith}
 use lib.Dec.{ltb, leb, eqb}
 use borrow.Author.Tests.{lt-ltb, le-ltb, ltb-true, ltb-false, le-leb, lt-leb, leb-true, eq-eqb, ne_eqb, eqb-true}
 use Rattle.seq.specs.List.{any, All}
-use Rattle.seq.proofs.Order.{clash, cond_self, cond_same}
+use Rattle.seq.proofs.Order.{clash, cond_same}
 use Rattle.thread.specs.Code.{eagain}
 use Rattle.kind.specs.Kind.{Lawful, Rightly, Sound, Right, small}
 use Rattle.kind.proofs.Picks.{all_of}
@@ -28,10 +28,7 @@ module _ (c l : ℕ) where
   pub idle : 0 < l → c ≤ l → formed (mk c l) false ≡ true
   idle h k = rw (lt-ltb 0 l h, le-leb c l k)
 
-  pub vacant : 0 < l → formed (mk c l) false ≡ leb c l
-  vacant h = rw (lt-ltb 0 l h) (cond_self (leb c l))
-
-  pub crowded : 0 < l → formed (mk c l) true ≡ eqb c 0
+  crowded : 0 < l → formed (mk c l) true ≡ eqb c 0
   crowded h = rw (lt-ltb 0 l h) (go (eqb c 0) refl)
     where
       go : (b : Bool) → eqb c 0 ≡ b → cond (leb c l) b false ≡ b

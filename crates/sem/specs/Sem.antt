@@ -5,6 +5,10 @@ use Rattle.thread.specs.Code.{ok, eagain, ebusy}
 use Rattle.wait_queue.specs.Turn.{waits}
 use Rattle.kind.specs.Verdict.{up_to, everybody, keep, park, wake, Verdict, deny, allow}
 use Rattle.kind.specs.Kind.{Kind, Balance, balanced, impossible, small}
+use Rattle.sem.specs.declared.GiveDecision.{GiveDecision}
+use Rattle.sem.specs.declared.GiveDecision.TheVariants as decided
+use Rattle.sem.specs.declared.GiveResult.{GiveResult}
+use Rattle.sem.specs.declared.GiveResult.TheVariants.{WokeThread, Incremented, Saturated}
 
 pub record Sem : Type 0 where
   pub count : ℕ
@@ -26,6 +30,23 @@ incremented = pos 1
 
 abbrev pub saturated : ℤ
 saturated = pos 2
+
+-- the number of what it decides, and of what it did
+abbrev pub decision : GiveDecision → ℤ
+decision decided.WakeThread = woke
+decision decided.Increment = incremented
+decision decided.Saturated = saturated
+
+abbrev pub gave : GiveResult → ℤ
+gave (WokeThread w) = woke
+gave Incremented = incremented
+gave Saturated = saturated
+
+-- the word of the thread that it woke, if it woke one; else n
+abbrev pub handed : GiveResult → ℕ → ℕ
+handed (WokeThread w) n = w
+handed Incremented n = n
+handed Saturated n = n
 
 abbrev pub counting : ℕ → Sem → Sem
 counting c s = record { count = c; limit = s.limit }

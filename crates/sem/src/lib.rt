@@ -1,228 +1,229 @@
 // The counting semaphore with its wait queue, in place: Gale's sem.rs. h: count, limit, how many wait; e: the queue of those.
+// They are two slices and not one struct, since a call that only reads the entries says so by its type. The words are bound by
+// reference (`&*h`), since each is read where it is tested: copies cost a try_take 4 instructions of 18.
 #![tactic(auto)]
 
-ghost use Rattle.std.specs.Prelude.{◌≡◌, true, ◌<◌, get_or};
-ghost use Rattle.kind.specs.Object.{sized, sane};
-ghost use Rattle.sem.specs.Sem.{formed as formedSem, sem_kind};
+ghost use Rattle.std.specs.Prelude.{◌≡◌, ℕ, pos};
+ghost use Rattle.thread.specs.Answer.{told, kept, done};
+ghost use Rattle.wait_queue.specs.Turn.{outcome};
+ghost use Rattle.kind.specs.Object.{sane};
+ghost use Rattle.sem.specs.Sem.{formed as formedSem, decision, gave, handed, sem_kind};
 ghost use Rattle.sem.specs.Post.{layout, Starts, Gives, TriesTake, Takes, Resets, GetsCount, GetsLimit, CountsWaiters, Audits, GiveDecided, TakeDecided};
 
-use thread::{EAGAIN, EBUSY, EINVAL, MAX_PRIORITY, OK, RUNNING};
-use wait_queue::WAITS;
+use thread::Errno::{self, EAGAIN, EBUSY, EINVAL};
+use thread::{Caller, Coded, OK};
+use wait_queue::Outcome;
 
-// What a give did: Gale's GiveDecision.
-pub const WOKE: i32 = 0;
+// What a give is to do.
+#[derive(Clone, Copy, Debug, PartialEq, Eq)]
+pub enum GiveDecision {
+    WakeThread = 0,
+    Increment = 1,
+    Saturated = 2,
+}
 
-pub const INCREMENTED: i32 = 1;
+impl Coded for GiveDecision {
+    ghost number = { decision };
 
-pub const SATURATED: i32 = 2;
+    fn code(self) -> i32 {
+        self as i32
+    }
+}
+
+// What a give did. The word of a woken thread has its id, and the result 0.
+#[derive(Clone, Copy, Debug, PartialEq, Eq)]
+pub enum GiveResult {
+    WokeThread(u64),
+    Incremented,
+    Saturated,
+}
+
+impl Coded for GiveResult {
+    ghost number = { gave };
+
+    fn code(self) -> i32 {
+        match self {
+            GiveResult::WokeThread(_) => GiveDecision::WakeThread.code(),
+            GiveResult::Incremented => GiveDecision::Increment.code(),
+            GiveResult::Saturated => GiveDecision::Saturated.code(),
+        }
+    }
+}
 
 // Whether the numbers are as they should be where somebody waits, or nobody.
 fn numbers(count: u32, limit: u32, waits: bool) -> bool
     ensures { result ≡ formedSem (record { count = count; limit = limit }) waits }
 {
-    if limit == 0 {
-        return false;
+    match (limit, waits) {
+        (0, _) => false,
+        (_, true) => count == 0,
+        (_, false) => count <= limit,
     }
-    if waits {
-        return count == 0;
-    }
-    count <= limit
 }
 
 // Whether the memory and the numbers are as they should be.
 fn formed(h: &[u32], e: &[u64]) -> bool
     ensures { result ≡ sane sem_kind layout h.now e.now }
 {
-    if h.len() < 3 {
+    let [count, limit, waiting, ..] = h else {
         return false;
-    }
-    let n = h[2];
-    if wait_queue::fits(n, e) {
-        return numbers(h[0], h[1], 0 < n);
-    }
-    false
+    };
+    wait_queue::fits(*waiting, e) && numbers(*count, *limit, 0 < *waiting)
 }
 
-// WOKE, INCREMENTED or SATURATED; EINVAL.
-pub fn give_decide(count: u32, limit: u32, has_waiter: bool) -> i32
-    ensures { GiveDecided count limit has_waiter result }
+pub fn give_decide(count: u32, limit: u32, has_waiter: bool) -> Result<GiveDecision, Errno>
+    ensures { GiveDecided count limit has_waiter (told decision result) }
 {
     if !numbers(count, limit, has_waiter) {
-        return EINVAL;
+        return Err(EINVAL);
     }
-    if has_waiter {
-        return WOKE;
-    }
-    if count < limit {
-        return INCREMENTED;
-    }
-    SATURATED
+    Ok(if has_waiter {
+        GiveDecision::WakeThread
+    } else if count < limit {
+        GiveDecision::Increment
+    } else {
+        GiveDecision::Saturated
+    })
 }
 
-// OK: one is taken; WAITS: the caller is to wait; EBUSY.
-pub fn take_decide(count: u32, is_no_wait: bool) -> i32
-    ensures { TakeDecided count is_no_wait result }
+// Blocked: the caller is to wait.
+pub fn take_decide(count: u32, is_no_wait: bool) -> Result<Outcome, Errno>
+    ensures { TakeDecided count is_no_wait (told outcome result) }
 {
-    if count == 0 {
-        if is_no_wait {
-            return EBUSY;
-        }
-        return WAITS;
+    match (count, is_no_wait) {
+        (0, true) => Err(EBUSY),
+        (0, false) => Ok(Outcome::Blocked),
+        _ => Ok(Outcome::Acquired),
     }
-    OK
 }
 
-// OK; EINVAL: a limit of 0, or a count above it.
-pub fn init(h: &mut [u32], count: u32, limit: u32) -> i32
-    ensures { Starts count limit h.old result h.new }
+// EINVAL: a limit of 0, or a count above it.
+pub fn init(h: &mut [u32], count: u32, limit: u32) -> Result<(), Errno>
+    ensures { Starts count limit h.old (told done result) h.new }
 {
-    if h.len() < 3 {
-        return EINVAL;
-    }
-    if !numbers(count, limit, false) {
-        return EINVAL;
+    if h.len() < 3 || !numbers(count, limit, false) {
+        return Err(EINVAL);
     }
     h[0] = count;
     h[1] = limit;
     h[2] = 0;
-    OK
+    Ok(())
 }
 
-// WOKE: who is to be made ready, with 0; INCREMENTED; SATURATED.
-pub fn give(h: &mut [u32], e: &[u64], who: &mut u64) -> i32
-    ensures { Gives h.old e.now who.old result h.new who.new }
+pub fn give(h: &mut [u32], e: &[u64]) -> Result<GiveResult, Errno>
+    ensures { (x : ℕ) → Gives h.old e.now x (told gave result) h.new (kept handed result x) }
 {
-    if !kind::housed(h, 3, e) {
-        return EINVAL;
+    let [count, limit, waiting, ..] = &*h else {
+        return Err(EINVAL);
+    };
+    if !wait_queue::fits(0, e) {
+        return Err(EINVAL);
     }
-    let waiting = h[2];
-    if 0 < waiting {
+    if 0 < *waiting {
         if !formed(h, e) {
-            return EINVAL;
+            return Err(EINVAL);
         }
-        wait_queue::unpend_first(&mut h[2], e, OK, who);
-        return WOKE;
+        let Some(who) = wait_queue::unpend_first(&mut h[2], e, OK)? else {
+            unreachable!();
+        };
+        return Ok(GiveResult::WokeThread(who));
     }
-    let count = h[0];
-    if count < h[1] {
-        h[0] = count + 1;
-        return INCREMENTED;
+    if *count < *limit {
+        h[0] = *count + 1;
+        return Ok(GiveResult::Incremented);
     }
     if !formed(h, e) {
-        return EINVAL;
+        return Err(EINVAL);
     }
-    SATURATED
+    Ok(GiveResult::Saturated)
 }
 
-// OK: one was taken; EBUSY: there is none.
-pub fn try_take(h: &mut [u32], e: &[u64]) -> i32
-    ensures { TriesTake h.old e.now result h.new }
+// EBUSY: there is none.
+pub fn try_take(h: &mut [u32], e: &[u64]) -> Result<(), Errno>
+    ensures { TriesTake h.old e.now (told done result) h.new }
 {
-    if !kind::housed(h, 3, e) {
-        return EINVAL;
+    let [count, limit, waiting, ..] = &*h else {
+        return Err(EINVAL);
+    };
+    if !wait_queue::fits(0, e) {
+        return Err(EINVAL);
     }
-    let count = h[0];
-    if 0 < count {
-        if h[1] < count {
-            return EINVAL;
+    if *count == 0 {
+        return Err(if formed(h, e) { EBUSY } else { EINVAL });
+    }
+    if *limit < *count || *waiting != 0 {
+        return Err(EINVAL);
+    }
+    h[0] -= 1;
+    Ok(())
+}
+
+// Blocked: the caller waits, behind all of equal or higher priority.
+pub fn take_blocking(h: &mut [u32], e: &mut [u64], caller: Caller) -> Result<Outcome, Errno>
+    ensures { Takes caller.id caller.priority caller.state h.old e.old (told outcome result) h.new e.new }
+{
+    let [count, limit, waiting, ..] = &*h else {
+        return Err(EINVAL);
+    };
+    if !wait_queue::fits(0, e) {
+        return Err(EINVAL);
+    }
+    if 0 < *count {
+        if *limit < *count || 0 < *waiting {
+            return Err(EINVAL);
         }
-        if 0 < h[2] {
-            return EINVAL;
-        }
-        h[0] = count - 1;
-        return OK;
+        caller.may_wait()?;
+        h[0] = *count - 1;
+        return Ok(Outcome::Acquired);
     }
-    if !formed(h, e) {
-        return EINVAL;
+    if *limit == 0 {
+        return Err(EINVAL);
     }
-    EBUSY
-}
-
-// A semaphore with a count above 0.
-fn take_there(h: &mut [u32], e: &[u64], id: u32, priority: u32, state: u32) -> i32
-    requires { (sized 3 h.old e.now ≡ true) × (0 < get_or h.old 0 0) }
-    ensures { Takes id priority state h.old e.now result h.new e.now }
-{
-    let there = h[0];
-    if h[1] < there {
-        return EINVAL;
-    }
-    if 0 < h[2] {
-        return EINVAL;
-    }
-    if state != RUNNING {
-        return wait_queue::caller(priority, state);
-    }
-    if MAX_PRIORITY <= priority {
-        return EINVAL;
-    }
-    h[0] = there - 1;
-    OK
-}
-
-// OK: one was taken; WAITS: the thread waits, behind all of equal or higher priority.
-pub fn take_blocking(h: &mut [u32], e: &mut [u64], id: u32, priority: u32, state: u32) -> i32
-    ensures { Takes id priority state h.old e.old result h.new e.new }
-{
-    if !kind::housed(h, 3, e) {
-        return EINVAL;
-    }
-    if 0 < h[0] {
-        return take_there(h, e, id, priority, state);
-    }
-    if h[1] == 0 {
-        return EINVAL;
-    }
-    wait_queue::pend(&mut h[2], e, id, priority, state)
+    wait_queue::pend(&mut h[2], e, caller)
 }
 
 // How many were woken, each with EAGAIN; the count is 0.
-pub fn reset(h: &mut [u32], e: &[u64], out: &mut [u64]) -> i32
-    ensures { Resets h.old e.now out.old result h.new out.new }
+pub fn reset(h: &mut [u32], e: &[u64], out: &mut [u64]) -> Result<u16, Errno>
+    ensures { Resets h.old e.now out.old (told pos result) h.new out.new }
 {
-    if !formed(h, e) {
-        return EINVAL;
-    }
-    if out.len() < seq::wide(h[2]) {
-        return EINVAL;
+    if !formed(h, e) || out.len() < h[2] as usize {
+        return Err(EINVAL);
     }
     h[0] = 0;
-    wait_queue::unpend_all(&mut h[2], e, EAGAIN, out)
+    wait_queue::unpend_all(&mut h[2], e, EAGAIN.code(), out)
 }
 
-pub fn count_get(h: &[u32], e: &[u64]) -> i64
-    ensures { GetsCount h.now e.now result }
+// The three getters stay apart: one function over the word's index would need a clause over that index, no shorter than this.
+pub fn count_get(h: &[u32], e: &[u64]) -> Result<u32, Errno>
+    ensures { GetsCount h.now e.now (told pos result) }
 {
-    if !formed(h, e) {
-        return -22;
+    match h {
+        [count, ..] if formed(h, e) => Ok(*count),
+        _ => Err(EINVAL),
     }
-    seq::signed(h[0])
 }
 
-pub fn limit_get(h: &[u32], e: &[u64]) -> i64
-    ensures { GetsLimit h.now e.now result }
+pub fn limit_get(h: &[u32], e: &[u64]) -> Result<u32, Errno>
+    ensures { GetsLimit h.now e.now (told pos result) }
 {
-    if !formed(h, e) {
-        return -22;
+    match h {
+        [_, limit, ..] if formed(h, e) => Ok(*limit),
+        _ => Err(EINVAL),
     }
-    seq::signed(h[1])
 }
 
-pub fn num_waiters(h: &[u32], e: &[u64]) -> i64
-    ensures { CountsWaiters h.now e.now result }
+pub fn num_waiters(h: &[u32], e: &[u64]) -> Result<u32, Errno>
+    ensures { CountsWaiters h.now e.now (told pos result) }
 {
-    if !formed(h, e) {
-        return -22;
+    match h {
+        [_, _, waiting, ..] if formed(h, e) => Ok(*waiting),
+        _ => Err(EINVAL),
     }
-    seq::signed(h[2])
 }
 
 // Whether the whole semaphore is well formed.
 pub fn audit(h: &[u32], e: &[u64]) -> bool
     ensures { Audits h.now e.now result }
 {
-    if !formed(h, e) {
-        return false;
-    }
-    wait_queue::audit(h[2], e)
+    formed(h, e) && wait_queue::audit(h[2], e)
 }

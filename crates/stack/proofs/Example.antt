@@ -13,6 +13,7 @@ use Rattle.stack.specs.Stack.{Stack, wakes_waiter, waits, pops, push_decide, pop
 use Rattle.stack.specs.Post.{place}
 use Rattle.stack.specs.History.{Call, pushing, popping, does, next, count, Lies, pushed, stayed}
 use Rattle.stack.specs.HandOver.{Waited, Event, put, get, happens, ends, all_calls, words_out}
+use Rattle.stack.proofs.Memory.{is-sound}
 use Rattle.stack.proofs.Answers as answers
 
 -- room for two in a memory of three
@@ -72,7 +73,7 @@ pub malformed_is : (looks place used (0 ∷ 0 ∷ []) (5 ∷ []) ≡ einval) × 
 malformed_is = (refl, refl, refl, refl)
 
 pub made_one : Made place does (2 ∷ 1 ∷ []) (5 ∷ 0 ∷ 9 ∷ []) (saw (pushing 6) ok [] ∷ []) (2 ∷ 2 ∷ []) (5 ∷ 6 ∷ 9 ∷ [])
-made_one = made [] [] begun (answers.pushed (2 ∷ 1 ∷ []) (5 ∷ 0 ∷ 9 ∷ []) refl 6 (omega arith)) refl
+made_one = made [] [] begun (answers.pushed (2 ∷ 1 ∷ []) (5 ∷ 0 ∷ 9 ∷ []) (is-sound (2 ∷ 1 ∷ []) (5 ∷ 0 ∷ 9 ∷ []) refl) 6 (omega arith)) refl
 
 -- on plain numbers
 pub decided-is : (push_decide 0 2 true ≡ accept 0 wakes_waiter []) × (push_decide 1 2 false ≡ accept 2 ok []) × (push_decide 2 2 false ≡ refuse enomem)

@@ -1,3 +1,4 @@
+pub mod Answer
 pub mod Stack
 pub mod Post
 pub mod History

@@ -1,7 +1,9 @@
 -- The stack in memory: h = how many words it can hold, how many it holds; w = the words, the last in behind the others. What each
 -- function does.
-use Rattle.std.specs.Prelude.{◌≡◌, Bool, false, cond, List, ℕ, ◌-◌, ltb, leb, ℤ, length, get_or, take, drop}
+use Rattle.std.specs.Prelude.{◌≡◌, Bool, false, cond, List, ℕ, ◌-◌, ltb, leb, ℤ, length, get_or, take, drop, Result, Ok, Err}
 use Rattle.seq.specs.List.{back}
+use Rattle.thread.specs.declared.Errno.{Errno}
+use Rattle.thread.specs.declared.Errno.TheVariants.{EINVAL}
 use Rattle.store.specs.Store.{Decided, Place, Did, looks, Hands, Started}
 use Rattle.stack.specs.Stack.{Stack, pops, push_decide, push, pop, used, free, size, full, empty, fresh, may}
 
@@ -21,6 +23,10 @@ place =
       object = λ h w. stack_of (get_or h 0 0) (get_or h 1 0) w;
       formed = λ h w. cond (leb 2 (length h)) (sound (get_or h 0 0) (get_or h 1 0) w) false;
     }
+
+-- how many words it can hold, and how many it holds
+abbrev pub numbers : List ℕ → List ℕ → Result (ℕ × ℕ) Errno
+numbers h w = cond (place.formed h w) (Ok (get_or h 0 0, get_or h 1 0)) (Err EINVAL)
 
 -- ---- what each function does
 

@@ -12,7 +12,7 @@ use Rattle.seq.specs.List.{any}
 use Rattle.seq.proofs.Words.{Each, by-words}
 pub use Rattle.seq.proofs.Order.{both_true}
 use Rattle.thread.specs.Code.{ok, einval}
-use Rattle.store.specs.Store.{Reply, refuse, accept, answer, left, out, carry, Decided, Place, reply, Becomes, After, Did, looks, Filled, first, Fills, Hands, Started, Refused, Signed}
+use Rattle.store.specs.Store.{Reply, refuse, accept, answer, out, carry, Decided, Place, reply, Becomes, After, Did, looks, Filled, first, Fills, Hands, Started, Refused, Signed}
 
 pub any_some : {A : Type 0} (l : List A) → 0 < length l → any l ≡ true
 any_some [] f = absurd (omega arith)
@@ -105,10 +105,6 @@ module _ {S : Type 0} (P : Place S) (f : S → Reply S) (h b : List ℕ) where
         → Hands P f h b x r h' (first x l)
     hands_yes e y m = (did_yes e y m, rw (replies e, y) refl)
 
-    -- it is told, and nothing changes
-    pub hands_look : {r : ℤ} {l : List ℕ} → P.formed h b ≡ true → f (P.object h b) ≡ accept (P.object h b) r l → Hands P f h b x r h (first x l)
-    hands_look e y = hands_yes e y (record { formed = e; object = refl; beside = refl; rest = refl; long = (refl, refl) })
-
     -- what a caller was told
     pub handed : {y : Reply S} {r : ℤ} {h' : List ℕ} {x' : ℕ} → reply P f h b ≡ y → Hands P f h b x r h' x' → (r ≡ answer y) × (x' ≡ first x (out y))
     handed e d = (d.0.code ∙ ap answer e, d.1 ∙ ap (λ (z : Reply S). first x (out z)) e)
@@ -162,10 +158,6 @@ pub carry-answer : {N S : Type 0} (f : N → S) (y : Reply N) → answer (carry 
 carry-answer f (refuse r) = refl
 carry-answer f (accept n r o) = refl
 
-pub carry-left : {N S : Type 0} (f : N → S) (y : Reply N) (n : N) → left (carry f y) (f n) ≡ f (left y n)
-carry-left f (refuse r) n = refl
-carry-left f (accept m r o) n = refl
-
 -- operations with the same reply do the same
 pub did_alike : {S : Type 0} (P : Place S) (f g : S → Reply S) (h b : List ℕ) {r : ℤ} {h' b' : List ℕ} → reply P f h b ≡ reply P g h b → Did P f h b r h' b'
     → Did P g h b r h' b'
@@ -192,9 +184,6 @@ module _ {S : Type 0} (P : Place S) (s : List ℕ → S) (w : List ℕ → List 
 module _ {d : Reply ℕ} {a : ℤ} where
   pub decides : {n : ℕ} {l : List ℕ} (m : ℕ) → d ≡ accept n a l → Decided d m a n
   decides m e = rw e (record { code = refl; number = refl })
-
-  pub declines : (m : ℕ) → d ≡ refuse a → Decided d m a m
-  declines m e = rw e (record { code = refl; number = refl })
 
   pub decided : {n m m' : ℕ} {l : List ℕ} {r : ℤ} → d ≡ accept n a l → Decided d m r m' → (r ≡ a) × (m' ≡ n)
   decided {n} {m} {m'} {l} {r} e x = let y = subst (λ (z : Reply ℕ). Decided z m r m') e x in (y.code, y.number)

@@ -3,17 +3,16 @@ use mathlib.Core.Path.{◌≡◌, refl}
 use mathlib.Core.Bool.{true, false}
 use mathlib.Core.List.{List, [], ◌∷◌}
 use Prim.Native.Nat.{ℕ}
-use native.Mathlib.Omega.{arith}
 use lib.IntN.{ℤ, pos}
+use lib.ListN.{length, drop}
 use Rattle.thread.specs.Code.{ok, ebusy, einval}
-use Rattle.store.specs.Store.{Reply, accept, refuse, out, reply, looks}
+use Rattle.store.specs.Store.{Becomes, Reply, accept, refuse, out, reply, looks}
 use Rattle.store.specs.History.{Step, Made, begun, made}
 use Rattle.timeout.specs.Timeout.{Timeout, timeout, never, right, add_decide, announce_decide, abort_decide, fresh, may}
 use Rattle.timeout.specs.Timeout.{add, add_absolute, add_forever, add_no_wait, abort, announce}
 use Rattle.timeout.specs.Timeout.{remaining, expires, clock_now, timepoint_calc, timepoint_timeout, whether_active, whether_forever, whether_no_wait}
 use Rattle.timeout.specs.Post.{place}
 use Rattle.timeout.specs.History.{Call, adding, adding_forever, aborting, announcing, does, ticked, idle, due, plan, touches, firings, reached}
-use Rattle.timeout.proofs.Answers as answers
 
 -- a new one with the clock at 10 gets the deadline 15; one with a deadline is busy
 abbrev new : Timeout
@@ -70,9 +69,14 @@ pub run_is : (ticked since ≡ 6) × (firings since ≡ 1) × (reached 15 10 sin
     × (touches (told (adding 7) ebusy) ≡ false) × (touches (told (adding 5) ok) ≡ true)
 run_is = (refl, refl, refl, refl, refl, refl, refl, refl, refl, refl)
 
+-- words that were written
+became : {h h' : List ℕ} → place.formed h' [] ≡ true → drop 3 h' ≡ drop 3 h → length h' ≡ length h → Becomes place (place.object h' []) h [] h' []
+became f b l = record { formed = f; object = refl; beside = b; rest = refl; long = (l, refl) }
+
 -- in memory, with a word beside it
 pub run-made : Made place does (0 ∷ 0 ∷ 10 ∷ 9 ∷ []) []
     (told (announcing 5) (pos 1) ∷ record { call = adding 5; answer = ok; out = 15 ∷ [] } ∷ []) (15 ∷ 0 ∷ 15 ∷ 9 ∷ []) []
 run-made =
-    made [] [] (made (0 ∷ []) (15 ∷ []) begun (answers.added (0 ∷ 0 ∷ 10 ∷ 9 ∷ []) refl 5 0 refl (omega arith)).0 refl)
-    (answers.announce-fires (15 ∷ 1 ∷ 10 ∷ 9 ∷ []) refl 5 (omega arith) (omega arith) (omega arith)) refl
+    made {h = 15 ∷ 1 ∷ 10 ∷ 9 ∷ []} {h' = 15 ∷ 0 ∷ 15 ∷ 9 ∷ []} [] []
+    (made {h = 0 ∷ 0 ∷ 10 ∷ 9 ∷ []} {h' = 15 ∷ 1 ∷ 10 ∷ 9 ∷ []} (0 ∷ []) (15 ∷ []) begun (record { code = refl; after = became refl refl refl }) refl)
+    (record { code = refl; after = became refl refl refl }) refl

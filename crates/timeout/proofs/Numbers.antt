@@ -53,9 +53,6 @@ module _ (b : Bool) (d n : ℕ) where
 
 -- numbers of a timeout
 module _ (d c : ℕ) where
-  pub right-never : (b : Bool) → c ≡ never → right b d c ≡ false
-  right-never b e = rw e
-
   module _ (k : c < never) where
     pub right-idle : (b : Bool) → b ≡ false → right b d c ≡ true
     right-idle b e = rw (lt-ltb c never k, e)
@@ -65,9 +62,6 @@ module _ (d c : ℕ) where
 
     pub right-ahead : (b : Bool) → c ≤ d → right b d c ≡ true
     right-ahead b f = rw (lt-ltb c never k, le-leb c d f, cond_same (eqb d 0) true) (cond_same b true)
-
-    pub right-behind : (b : Bool) → b ≡ true → (d ≡ 0 → ⊥) → right b d c ≡ leb c d
-    right-behind b e f = rw (lt-ltb c never k, e, ne_eqb d 0 f)
 
   pub absolute-behind : d < c → absolute d c ≡ refuse einval
   absolute-behind e = rw (lt-leb c d e)

@@ -1,7 +1,10 @@
 -- The timeout in memory: h = its deadline, whether it is active, its clock. There is no buffer. What each function does.
-use Rattle.std.specs.Prelude.{◌≡◌, Bool, false, cond, List, [], ℕ, ltb, leb, ℤ, length, get_or}
+use Rattle.std.specs.Prelude.{◌≡◌, Bool, true, false, cond, List, [], ℕ, ◌+◌, ◌<◌, ◌≤◌, ltb, leb, ℤ, length, get_or, slice_set, Result, MatchResult, ◌⊎◌}
+use Rattle.thread.specs.declared.Errno.{Errno}
+use Rattle.thread.specs.declared.Errno.TheVariants.{EBUSY, EINVAL}
+use Rattle.timeout.specs.declared.Timeout as declared
 use Rattle.store.specs.Store.{Decided, Place, Did, looks, Hands, Started}
-use Rattle.timeout.specs.Timeout.{Timeout, timeout, right, add_decide, announce_decide, abort_decide, add, add_absolute, add_forever, add_no_wait, abort, announce, remaining, expires, clock_now, timepoint_calc, timepoint_timeout, whether_active, whether_forever, whether_no_wait, fresh, may}
+use Rattle.timeout.specs.Timeout.{Timeout, timeout, never, right, add_decide, announce_decide, abort_decide, add, add_absolute, add_forever, add_no_wait, abort, announce, remaining, expires, clock_now, timepoint_calc, timepoint_timeout, whether_active, whether_forever, whether_no_wait, fresh, may}
 
 abbrev pub place : Place Timeout
 place =
@@ -67,6 +70,35 @@ SaysForever h r = r ≡ looks place whether_forever h []
 
 abbrev pub SaysNoWait : List ℕ → ℤ → Type 0
 SaysNoWait h r = r ≡ looks place whether_no_wait h []
+
+-- ---- what the functions inside do
+
+-- what a header says that is as it should be
+abbrev pub Reads : List ℕ → Result declared.Timeout Errno → Type 0
+Reads h r =
+    MatchResult r
+    (λ t. (3 ≤ length h) × (place.formed h [] ≡ true) × (t.deadline ≡ get_or h 0 0) × (t.active ≡ ltb 0 (get_or h 1 0)) × (t.clock ≡ get_or h 2 0))
+    (λ e. (e ≡ EINVAL) × (place.formed h [] ≡ false))
+
+-- why a deadline is not taken: the header is malformed, or it has one
+abbrev pub Taken : List ℕ → Errno → Type 0
+Taken h e = ((e ≡ EINVAL) × (place.formed h [] ≡ false)) ⊎ ((e ≡ EBUSY) × (place.formed h [] ≡ true) × (ltb 0 (get_or h 1 0) ≡ true))
+
+-- the clock of one that is not active
+abbrev pub Idle : List ℕ → Result ℕ Errno → Type 0
+Idle h r =
+    MatchResult r (λ c. (3 ≤ length h) × (place.formed h [] ≡ true) × (ltb 0 (get_or h 1 0) ≡ false) × (c ≡ get_or h 2 0)) (Taken h)
+
+-- it is active, with this deadline
+abbrev pub Arms : ℕ → List ℕ → Result Unit Errno → List ℕ → Type 0
+Arms deadline h r h' =
+    MatchResult r
+    (λ t. (3 ≤ length h) × (place.formed h [] ≡ true) × (ltb 0 (get_or h 1 0) ≡ false) × (h' ≡ slice_set (slice_set h 0 deadline) 1 1))
+    (λ e. Taken h e × (h' ≡ h))
+
+-- so many ticks after the clock, below never
+abbrev pub Later : (clock ticks : ℕ) → Result ℕ Errno → Type 0
+Later clock ticks r = MatchResult r (λ n. (n ≡ clock + ticks) × (clock + ticks < never)) (λ e. (e ≡ EINVAL) × (never ≤ clock + ticks))
 
 -- ---- on plain numbers
 

@@ -1,7 +1,9 @@
 -- The timeout: a deadline in ticks, and a clock.
 use Rattle.std.specs.Prelude.{Bool, true, false, cond, [], ◌∷◌, ℕ, ◌+◌, ◌-◌, eqb, ltb, leb, ℤ, pos}
 use Rattle.thread.specs.Code.{ok, ebusy, einval}
+use Rattle.thread.specs.Answer.{truth}
 use Rattle.store.specs.Store.{Reply, refuse, accept, carry, handing}
+use Rattle.timeout.specs.declared.AnnounceDecideResult.{AnnounceDecideResult}
 
 pub record Timeout : Type 0 where
   pub deadline : ℕ
@@ -45,6 +47,13 @@ announces active deadline clock ticks = later (cond (fires active deadline (cloc
 
 abbrev pub announce_decide : (active : Bool) → (deadline clock ticks : ℕ) → Reply ℕ
 announce_decide active deadline clock ticks = cond (right active deadline clock) (announces active deadline clock ticks) (refuse einval)
+
+-- what its result answers, and the clock that goes to a word
+abbrev pub decided : AnnounceDecideResult → ℤ
+decided r = truth r.fired
+
+abbrev pub its_tick : AnnounceDecideResult → ℕ → ℕ
+its_tick r n = r.new_tick
 
 -- whether there is something to abort
 abbrev pub abort_decide : (active : Bool) → Bool

@@ -1,15 +1,16 @@
 -- A run of a timer, computed. Assumes nothing.
 use mathlib.Core.Path.{◌≡◌, refl}
 use mathlib.Core.List.{List, [], ◌∷◌}
-use native.Mathlib.Omega.{arith}
+use mathlib.Core.Bool.{true}
+use Prim.Native.Nat.{ℕ}
 use lib.IntN.{ℤ, pos}
+use lib.ListN.{length, drop}
 use Rattle.thread.specs.Code.{ok, einval, eoverflow}
-use Rattle.store.specs.Store.{accept, refuse, looks}
+use Rattle.store.specs.Store.{Becomes, accept, refuse, looks}
 use Rattle.store.specs.History.{Step, Made, begun, made}
 use Rattle.timer.specs.Timer.{timer, expire_decide, expire, count, ticks, runs}
 use Rattle.timer.specs.Post.{place}
 use Rattle.timer.specs.History.{Call, starting, stopping, expiring, reading, does, since, ran, expiries, reads}
-use Rattle.timer.proofs.Answers as answers
 
 -- it expires twice, is read, expires again; the last in front
 abbrev told : Call → ℤ → Step Call
@@ -26,14 +27,22 @@ pub cleared-is : (since 0 (told starting ok ∷ run) ≡ 0) × (since 0 (told st
     × (ran 0 (told expiring (pos 1) ∷ told starting ok ∷ []) ≡ 1) × (ran 1 (told stopping ok ∷ []) ≡ 0)
 cleared-is = (refl, refl, refl, refl, refl)
 
+-- words that were written
+became : {h h' : List ℕ} → place.formed h' [] ≡ true → drop 3 h' ≡ drop 3 h → length h' ≡ length h → Becomes place (place.object h' []) h [] h' []
+became f b l = record { formed = f; object = refl; beside = b; rest = refl; long = (l, refl) }
+
 -- in memory: a timer that does not run, of period 5, with a word beside it, expires and is read
 pub run-made : Made place does (0 ∷ 5 ∷ 0 ∷ 9 ∷ []) [] (told reading (pos 1) ∷ told expiring (pos 1) ∷ []) (0 ∷ 5 ∷ 0 ∷ 9 ∷ []) []
 run-made =
-    made [] [] (made [] [] begun (answers.expired (0 ∷ 5 ∷ 0 ∷ 9 ∷ []) (omega arith) (omega arith)) refl)
-    (answers.was_read (1 ∷ 5 ∷ 0 ∷ 9 ∷ []) (omega arith)) refl
+    made {h = 1 ∷ 5 ∷ 0 ∷ 9 ∷ []} {h' = 0 ∷ 5 ∷ 0 ∷ 9 ∷ []} [] []
+    (made {h = 0 ∷ 5 ∷ 0 ∷ 9 ∷ []} {h' = 1 ∷ 5 ∷ 0 ∷ 9 ∷ []} [] [] begun (record { code = refl; after = became refl refl refl }) refl)
+    (record { code = refl; after = became refl refl refl }) refl
 
 pub started_is : Made place does (3 ∷ 5 ∷ 0 ∷ []) [] (told stopping ok ∷ told starting ok ∷ []) (0 ∷ 5 ∷ 0 ∷ []) []
-started_is = made [] [] (made [] [] begun (answers.started (3 ∷ 5 ∷ 0 ∷ []) (omega arith)) refl) (answers.stopped (0 ∷ 5 ∷ 1 ∷ []) (omega arith)) refl
+started_is =
+    made {h = 0 ∷ 5 ∷ 1 ∷ []} {h' = 0 ∷ 5 ∷ 0 ∷ []} [] []
+    (made {h = 3 ∷ 5 ∷ 0 ∷ []} {h' = 0 ∷ 5 ∷ 1 ∷ []} [] [] begun (record { code = refl; after = became refl refl refl }) refl)
+    (record { code = refl; after = became refl refl refl }) refl
 
 -- at 2^32 - 1 an expiry is refused, and it is not asked whether the timer runs
 pub expire-is : (expire (timer 4294967295 5 1) ≡ refuse eoverflow) × (expire (timer 4294967294 5 0) ≡ accept (timer 4294967295 5 0) (pos 4294967295) [])

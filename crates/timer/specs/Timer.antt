@@ -1,7 +1,9 @@
 -- The timer: how often it expired since it was last started, stopped or read.
-use Rattle.std.specs.Prelude.{cond, [], ℕ, suc, eqb, ltb, ℤ, pos}
+use Rattle.std.specs.Prelude.{Bool, cond, [], ℕ, suc, eqb, ltb, ℤ, pos}
 use Rattle.thread.specs.Code.{ok, eoverflow}
+use Rattle.thread.specs.Answer.{truth}
 use Rattle.store.specs.Store.{Reply, refuse, accept, carry}
+use Rattle.timer.specs.declared.ExpireDecideResult.{ExpireDecideResult}
 
 pub record Timer : Type 0 where
   -- how often it expired
@@ -30,6 +32,13 @@ unless_zero n = cond (eqb n 0) (pos 0) (pos 1)
 abbrev pub expire_decide : (status period : ℕ) → Reply ℕ
 expire_decide status period = expires (unless_zero period) status
 
+-- that answer, and the count that goes to a word
+abbrev pub decided : ExpireDecideResult → ℤ
+decided r = truth r.is_periodic
+
+abbrev pub its_status : ExpireDecideResult → ℕ → ℕ
+its_status r n = r.new_status
+
 -- of a whole timer the answer is the count
 abbrev pub expire : Timer → Reply Timer
 expire t = carry (λ n. timer n t.period t.running) (expires (pos (suc t.status)) t.status)
@@ -39,6 +48,10 @@ start t = accept (timer 0 t.period 1) ok []
 
 abbrev pub stop : Timer → Reply Timer
 stop t = accept (timer 0 t.period 0) ok []
+
+-- a start, or a stop
+abbrev pub set_running : Bool → Timer → Reply Timer
+set_running runs = cond runs start stop
 
 -- the count is told, and is 0 then
 abbrev pub status_get : Timer → Reply Timer

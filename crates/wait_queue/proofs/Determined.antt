@@ -56,7 +56,6 @@ determined =
     record {
       over = λ n. said _;
       fits = λ n e. said _;
-      caller = λ p st. said _;
       new = said _;
       len = λ n e. said _;
       is_empty = λ n e. said _;

@@ -2,12 +2,11 @@
 -- are the same, and so is every word.
 use Rattle.std.specs.Prelude.{Bool, List, ℕ, ℤ}
 use Rattle.seq.specs.Only.{Only}
-use Rattle.wait_queue.specs.Post.{SaysOver, SaysFits, AnswersCaller, Starts, GetsLen, SaysEmpty, SaysHolds, Enters, Pends, UnpendsFirst, UnpendsAll, Removes, Audits}
+use Rattle.wait_queue.specs.Post.{SaysOver, SaysFits, Starts, GetsLen, SaysEmpty, SaysHolds, Enters, Pends, UnpendsFirst, UnpendsAll, Removes, Audits}
 
 pub record Determined : Type 0 where
   pub over : (n : ℕ) → Only (λ (r : Bool). SaysOver n r)
   pub fits : (n : ℕ) (e : List ℕ) → Only (λ (r : Bool). SaysFits n e r)
-  pub caller : (p st : ℕ) → Only (λ (r : ℤ). AnswersCaller p st r)
   pub new : Only (λ (n' : ℕ). Starts n')
   pub len : (n : ℕ) (e : List ℕ) → Only (λ (r : ℤ). GetsLen n e r)
   pub is_empty : (n : ℕ) (e : List ℕ) → Only (λ (r : ℤ). SaysEmpty n e r)

@@ -6,12 +6,13 @@ use Rattle.seq.specs.Only.{Only}
 use Rattle.seq.proofs.Only.{said}
 use Rattle.thread.specs.Thread.{dispatched, blocked_now}
 use Rattle.thread.specs.declared.Thread.{Thread}
-use Rattle.thread.specs.declared.Changed.{Changed}
+use Rattle.thread.specs.declared.Errno.{Errno}
+use Rattle.std.specs.Prelude.{Result}
 use Rattle.waitqueue.specs.Threads.{Moves, Wakes}
 use Rattle.waitqueue.specs.Determined.{Determined}
 
 -- there is a thread: its id and its result are 0
-moves-only : (f : Thread → Changed) (p s : ℕ) → Only (λ ((r, s') : ℤ × ℕ). Moves f p s r s')
+moves-only : (f : Thread → Result Thread Errno) (p s : ℕ) → Only (λ ((r, s') : ℤ × ℕ). Moves f p s r s')
 moves-only f p s x y m k =
     let a = m 0 (pos 0) in
     let b = k 0 (pos 0) in
@@ -30,6 +31,7 @@ wakes-only p z s x y w m k =
 pub determined : Determined
 determined =
     record {
+      may_wait = λ p st. said _;
       wq_priority_new = λ value. said _;
       wq_thread_dispatch = moves-only dispatched;
       wq_thread_block = moves-only blocked_now;

@@ -1,34 +1,37 @@
 // Condition variables: the header's word, and the entries.
 ghost use Rattle.condvar.specs.Post.{Starts, Signals, Broadcasts, Waits, CountsWaiters, SaysHasWaiters, Audits, SignalDecided, BroadcastDecided, WaitDecided};
 
+use crate::answers::{told_who, wide};
+use crate::mutexes::told_heir;
+use thread::{Caller, Coded, told};
 use wait_queue::MAX_WAITERS;
 
 #[unsafe(no_mangle)]
 pub extern "C" fn wq_condvar_signal_decide(has_waiter: bool) -> i32
     ensures { SignalDecided has_waiter result }
 {
-    condvar::signal_decide(has_waiter)
+    condvar::signal_decide(has_waiter).code()
 }
 
 #[unsafe(no_mangle)]
 pub extern "C" fn wq_condvar_broadcast_decide(num_waiters: u32) -> i32
     ensures { BroadcastDecided num_waiters result }
 {
-    condvar::broadcast_decide(num_waiters)
+    told(condvar::broadcast_decide(num_waiters))
 }
 
 #[unsafe(no_mangle)]
 pub extern "C" fn wq_condvar_wait_decide(is_no_wait: bool) -> i32
     ensures { WaitDecided is_no_wait result }
 {
-    condvar::wait_decide(is_no_wait)
+    told(condvar::wait_decide(is_no_wait))
 }
 
 #[unsafe(no_mangle)]
 pub extern "C" fn wq_condvar_init(head: &mut [u32; 1]) -> i32
     ensures { Starts head.old result head.new }
 {
-    condvar::init(head)
+    told(condvar::init(head))
 }
 
 #[unsafe(no_mangle)]
@@ -39,7 +42,7 @@ pub extern "C" fn wq_condvar_signal(
 ) -> i32
     ensures { Signals head.old entry.now who.old result head.new who.new }
 {
-    condvar::signal(head, entry, who)
+    told_who(condvar::signal(head, entry), who)
 }
 
 #[unsafe(no_mangle)]
@@ -50,7 +53,7 @@ pub extern "C" fn wq_condvar_broadcast(
 ) -> i32
     ensures { Broadcasts head.old entry.now out.old result head.new out.new }
 {
-    condvar::broadcast(head, entry, out)
+    told(condvar::broadcast(head, entry, out))
 }
 
 #[unsafe(no_mangle)]
@@ -66,14 +69,13 @@ pub extern "C" fn wq_condvar_wait_blocking(
 ) -> i32
     ensures { Waits id priority state head.old entry.old mutex_head.old mutex_entry.now who.old result head.new entry.new mutex_head.new who.new }
 {
-    condvar::wait_blocking(
-        head,
-        entry,
-        mutex_head,
-        mutex_entry,
+    let caller = Caller {
         id,
         priority,
         state,
+    };
+    told_heir(
+        condvar::wait_blocking(head, entry, mutex_head, mutex_entry, caller),
         who,
     )
 }
@@ -82,14 +84,14 @@ pub extern "C" fn wq_condvar_wait_blocking(
 pub extern "C" fn wq_condvar_num_waiters(head: &[u32; 1], entry: &[u64; MAX_WAITERS]) -> i64
     ensures { CountsWaiters head.now entry.now result }
 {
-    condvar::num_waiters(head, entry)
+    wide(condvar::num_waiters(head, entry))
 }
 
 #[unsafe(no_mangle)]
 pub extern "C" fn wq_condvar_has_waiters(head: &[u32; 1], entry: &[u64; MAX_WAITERS]) -> i32
     ensures { SaysHasWaiters head.now entry.now result }
 {
-    condvar::has_waiters(head, entry)
+    told(condvar::has_waiters(head, entry))
 }
 
 #[unsafe(no_mangle)]

@@ -1,6 +1,7 @@
 // The C interface: include/waitqueue.h.
 #![tactic(auto)]
 
+pub mod answers;
 pub mod condvars;
 pub mod events;
 pub mod futexes;

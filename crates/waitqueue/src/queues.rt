@@ -1,6 +1,8 @@
 // Wait queues: the length, and the entries.
 ghost use Rattle.wait_queue.specs.Post.{Starts, GetsLen, SaysEmpty, Pends, UnpendsFirst, UnpendsAll, Removes, Audits};
 
+use crate::answers::told_who;
+use thread::{Caller, told};
 use wait_queue::MAX_WAITERS;
 
 #[unsafe(no_mangle)]
@@ -14,14 +16,14 @@ pub extern "C" fn wq_wait_queue_new(len: &mut u32)
 pub extern "C" fn wq_wait_queue_len(len: u32, entry: &[u64; MAX_WAITERS]) -> i32
     ensures { GetsLen len entry.now result }
 {
-    wait_queue::len(len, entry)
+    told(wait_queue::len(len, entry))
 }
 
 #[unsafe(no_mangle)]
 pub extern "C" fn wq_wait_queue_is_empty(len: u32, entry: &[u64; MAX_WAITERS]) -> i32
     ensures { SaysEmpty len entry.now result }
 {
-    wait_queue::is_empty(len, entry)
+    told(wait_queue::is_empty(len, entry))
 }
 
 #[unsafe(no_mangle)]
@@ -34,7 +36,15 @@ pub extern "C" fn wq_wait_queue_pend(
 ) -> i32
     ensures { Pends id priority state len.old entry.old result len.new entry.new }
 {
-    wait_queue::pend(len, entry, id, priority, state)
+    told(wait_queue::pend(
+        len,
+        entry,
+        Caller {
+            id,
+            priority,
+            state,
+        },
+    ))
 }
 
 #[unsafe(no_mangle)]
@@ -46,7 +56,7 @@ pub extern "C" fn wq_wait_queue_unpend_first(
 ) -> i32
     ensures { UnpendsFirst return_value len.old entry.now who.old result len.new who.new }
 {
-    wait_queue::unpend_first(len, entry, return_value, who)
+    told_who(wait_queue::unpend_first(len, entry, return_value), who)
 }
 
 #[unsafe(no_mangle)]
@@ -58,7 +68,7 @@ pub extern "C" fn wq_wait_queue_unpend_all(
 ) -> i32
     ensures { UnpendsAll return_value len.old entry.now out.old result len.new out.new }
 {
-    wait_queue::unpend_all(len, entry, return_value, out)
+    told(wait_queue::unpend_all(len, entry, return_value, out))
 }
 
 #[unsafe(no_mangle)]
@@ -69,7 +79,7 @@ pub extern "C" fn wq_wait_queue_remove(
 ) -> i32
     ensures { Removes id len.old entry.old result len.new entry.new }
 {
-    wait_queue::remove(len, entry, id)
+    told(wait_queue::remove(len, entry, id))
 }
 
 #[unsafe(no_mangle)]

@@ -1,11 +1,18 @@
 // Timeouts: the header's three words.
+ghost use Rattle.std.specs.Prelude.{◌≡◌};
+ghost use Rattle.thread.specs.Answer.{told, kept};
+ghost use Rattle.timeout.specs.Timeout.{decided, its_tick};
 ghost use Rattle.timeout.specs.Post.{AddDecided, AbortDecided, AnnounceDecided, Starts, Adds, AddsAbsolute, AddsForever, AddsNoWait, Aborts, Announces, GetsRemaining, GetsExpiry, SaysActive, SaysForever, SaysNoWait, GetsNow, CalcsTimepoint, GetsTimepointTimeout};
+
+use crate::answers::told_in;
+use thread::{Coded, Errno, told};
+use timeout::AnnounceDecideResult;
 
 #[unsafe(no_mangle)]
 pub extern "C" fn wq_timeout_add_decide(current_tick: u64, duration: u64, deadline: &mut u64) -> i32
     ensures { AddDecided current_tick duration «deadline».old result «deadline».new }
 {
-    timeout::add_decide(current_tick, duration, deadline)
+    told_in(timeout::add_decide(current_tick, duration), deadline)
 }
 
 #[unsafe(no_mangle)]
@@ -25,98 +32,114 @@ pub extern "C" fn wq_timeout_announce_decide(
 ) -> i32
     ensures { AnnounceDecided current_tick ticks deadline «active» new_tick.old result new_tick.new }
 {
-    timeout::announce_decide(current_tick, ticks, deadline, active, new_tick)
+    stored(
+        timeout::announce_decide(current_tick, ticks, deadline, active),
+        new_tick,
+    )
+}
+
+fn stored(answer: Result<AnnounceDecideResult, Errno>, new_tick: &mut u64) -> i32
+    ensures code { result ≡ told decided answer }
+    ensures word { new_tick.new ≡ kept its_tick answer new_tick.old }
+{
+    match answer {
+        Ok(announcement) => {
+            *new_tick = announcement.new_tick;
+            announcement.code()
+        }
+        Err(refusal) => refusal.code(),
+    }
 }
 
 #[unsafe(no_mangle)]
 pub extern "C" fn wq_timeout_init(head: &mut [u64; 3], current_tick: u64) -> i32
     ensures { Starts current_tick head.old result head.new }
 {
-    timeout::init(head, current_tick)
+    told(timeout::init(head, current_tick))
 }
 
 #[unsafe(no_mangle)]
 pub extern "C" fn wq_timeout_add(head: &mut [u64; 3], duration: u64, deadline: &mut u64) -> i32
     ensures { Adds «duration» head.old «deadline».old result head.new «deadline».new }
 {
-    timeout::add(head, duration, deadline)
+    told_in(timeout::add(head, duration), deadline)
 }
 
 #[unsafe(no_mangle)]
 pub extern "C" fn wq_timeout_add_absolute(head: &mut [u64; 3], deadline: u64) -> i32
     ensures { AddsAbsolute «deadline» head.old result head.new }
 {
-    timeout::add_absolute(head, deadline)
+    told(timeout::add_absolute(head, deadline))
 }
 
 #[unsafe(no_mangle)]
 pub extern "C" fn wq_timeout_add_forever(head: &mut [u64; 3]) -> i32
     ensures { AddsForever head.old result head.new }
 {
-    timeout::add_forever(head)
+    told(timeout::add_forever(head))
 }
 
 #[unsafe(no_mangle)]
 pub extern "C" fn wq_timeout_add_no_wait(head: &mut [u64; 3]) -> i32
     ensures { AddsNoWait head.old result head.new }
 {
-    timeout::add_no_wait(head)
+    told(timeout::add_no_wait(head))
 }
 
 #[unsafe(no_mangle)]
 pub extern "C" fn wq_timeout_abort(head: &mut [u64; 3]) -> i32
     ensures { Aborts head.old result head.new }
 {
-    timeout::abort(head)
+    told(timeout::abort(head))
 }
 
 #[unsafe(no_mangle)]
 pub extern "C" fn wq_timeout_announce(head: &mut [u64; 3], ticks: u64) -> i32
     ensures { Announces «ticks» head.old result head.new }
 {
-    timeout::announce(head, ticks)
+    told(timeout::announce(head, ticks))
 }
 
 #[unsafe(no_mangle)]
 pub extern "C" fn wq_timeout_remaining(head: &[u64; 3], ticks: &mut u64) -> i32
     ensures { GetsRemaining head.now «ticks».old result «ticks».new }
 {
-    timeout::remaining(head, ticks)
+    told_in(timeout::remaining(head), ticks)
 }
 
 #[unsafe(no_mangle)]
 pub extern "C" fn wq_timeout_expires(head: &[u64; 3], tick: &mut u64) -> i32
     ensures { GetsExpiry head.now «tick».old result «tick».new }
 {
-    timeout::expires(head, tick)
+    told_in(timeout::expires(head), tick)
 }
 
 #[unsafe(no_mangle)]
 pub extern "C" fn wq_timeout_is_active(head: &[u64; 3]) -> i32
     ensures { SaysActive head.now result }
 {
-    timeout::is_active(head)
+    told(timeout::is_active(head))
 }
 
 #[unsafe(no_mangle)]
 pub extern "C" fn wq_timeout_is_forever(head: &[u64; 3]) -> i32
     ensures { SaysForever head.now result }
 {
-    timeout::is_forever(head)
+    told(timeout::is_forever(head))
 }
 
 #[unsafe(no_mangle)]
 pub extern "C" fn wq_timeout_is_no_wait(head: &[u64; 3]) -> i32
     ensures { SaysNoWait head.now result }
 {
-    timeout::is_no_wait(head)
+    told(timeout::is_no_wait(head))
 }
 
 #[unsafe(no_mangle)]
 pub extern "C" fn wq_timeout_now(head: &[u64; 3], tick: &mut u64) -> i32
     ensures { GetsNow head.now «tick».old result «tick».new }
 {
-    timeout::now(head, tick)
+    told_in(timeout::now(head), tick)
 }
 
 #[unsafe(no_mangle)]
@@ -127,7 +150,7 @@ pub extern "C" fn wq_timeout_timepoint_calc(
 ) -> i32
     ensures { CalcsTimepoint «duration» head.now «timepoint».old result «timepoint».new }
 {
-    timeout::timepoint_calc(head, duration, timepoint)
+    told_in(timeout::timepoint_calc(head, duration), timepoint)
 }
 
 #[unsafe(no_mangle)]
@@ -138,5 +161,5 @@ pub extern "C" fn wq_timeout_timepoint_timeout(
 ) -> i32
     ensures { GetsTimepointTimeout «timepoint» head.now «ticks».old result «ticks».new }
 {
-    timeout::timepoint_timeout(head, timepoint, ticks)
+    told_in(timeout::timepoint_timeout(head, timepoint), ticks)
 }

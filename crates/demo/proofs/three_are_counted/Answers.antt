@@ -1,30 +1,35 @@
 -- Each answer is what the semaphore's definition gives, from the known numbers and queue on. Assumes nothing.
-use mathlib.Core.Path.{refl}
-use Rattle.sem.specs.Post.{give_out}
+use mathlib.Core.Path.{refl, sym, ◌∙◌}
+use Rattle.seq.proofs.Order.{clash}
 use Rattle.wait_queue.specs.Queue.{max_waiters}
-use Rattle.demo.proofs.Steps.{step}
+use Rattle.sem.specs.Post.{give_out}
+use Rattle.demo.proofs.Steps.{step, is_counted, is_full}
 use Rattle.demo.proofs.three_are_counted.Goals as goal
 
 pub prove-unreachable-requires : goal.prove-unreachable-requires
 unfolding max_waiters
-prove-unreachable-requires c = c.if-prove.true (rw (step c.requires refl give_out c.give-first.ensures.0).code refl)
+prove-unreachable-requires c =
+    let s = step c.requires refl give_out (c.give-first.ensures 0).0 in
+    clash (sym (rw (is_counted c.give-first.result s.code) at c.eq.ensures) ∙ c.if-prove.true)
 
 pub prove-unreachable-requires-2 : goal.prove-unreachable-requires-2
 unfolding max_waiters
 prove-unreachable-requires-2 c =
-    let a = step c.requires refl give_out c.give-first.ensures.0 in
-    c.if-prove-2.true (rw (step a.is refl give_out c.give-second.ensures.0).code refl)
+    let a = step c.requires refl give_out (c.give-first.ensures 0).0 in
+    let s = step a.is refl give_out (c.give-second.ensures 0).0 in
+    clash (sym (rw (is_counted c.give-second.result s.code) at c.eq-2.ensures) ∙ c.if-prove-2.true)
 
 pub prove-unreachable-requires-3 : goal.prove-unreachable-requires-3
 unfolding max_waiters
 prove-unreachable-requires-3 c =
-    let a = step c.requires refl give_out c.give-first.ensures.0 in
-    let b = step a.is refl give_out c.give-second.ensures.0 in
-    c.if-prove-3.true (rw (step b.is refl give_out c.give-third.ensures.0).code refl)
+    let a = step c.requires refl give_out (c.give-first.ensures 0).0 in
+    let b = step a.is refl give_out (c.give-second.ensures 0).0 in
+    let s = step b.is refl give_out (c.give-third.ensures 0).0 in
+    clash (sym (rw (is_full c.give-third.result s.code) at c.eq-3.ensures) ∙ c.if-prove-3.true)
 
 pub returns : goal.returns
 unfolding max_waiters
 returns c =
-    let a = step c.requires refl give_out c.give-first.ensures.0 in
-    let b = step a.is refl give_out c.give-second.ensures.0 in
-    (step b.is refl give_out c.give-third.ensures.0).is
+    let a = step c.requires refl give_out (c.give-first.ensures 0).0 in
+    let b = step a.is refl give_out (c.give-second.ensures 0).0 in
+    (step b.is refl give_out (c.give-third.ensures 0).0).is

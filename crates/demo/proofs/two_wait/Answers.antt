@@ -1,27 +1,32 @@
 -- Each answer is what the semaphore's definition gives, from the known numbers and queue on. Assumes nothing.
-use mathlib.Core.Path.{refl}
+use mathlib.Core.Path.{refl, sym, ◌∙◌}
+use Rattle.seq.proofs.Order.{clash}
+use Rattle.wait_queue.specs.Queue.{max_waiters}
 use Rattle.thread.specs.Thread.{running}
 use Rattle.sem.specs.Post.{take_out}
-use Rattle.wait_queue.specs.Queue.{max_waiters}
-use Rattle.demo.proofs.Steps.{step}
+use Rattle.demo.proofs.Steps.{step, is_acquired, is_blocked}
 use Rattle.demo.proofs.two_wait.Goals as goal
 
 pub prove-unreachable-requires : goal.prove-unreachable-requires
 unfolding max_waiters
-prove-unreachable-requires c = c.if-prove.true (rw (step c.requires refl (take_out 4 1 running) c.take-first.ensures).code refl)
+prove-unreachable-requires c =
+    let s = step c.requires refl (take_out 4 1 running) c.take-first.ensures in
+    clash (sym (rw (is_acquired c.take-first.result s.code) at c.eq.ensures) ∙ c.if-prove.true)
 
 pub prove-unreachable-requires-2 : goal.prove-unreachable-requires-2
 unfolding max_waiters
 prove-unreachable-requires-2 c =
     let a = step c.requires refl (take_out 4 1 running) c.take-first.ensures in
-    c.if-prove-2.true (rw (step a.is refl (take_out 4 1 running) c.take-second.ensures).code refl)
+    let s = step a.is refl (take_out 4 1 running) c.take-second.ensures in
+    clash (sym (rw (is_acquired c.take-second.result s.code) at c.eq-2.ensures) ∙ c.if-prove-2.true)
 
 pub prove-unreachable-requires-3 : goal.prove-unreachable-requires-3
 unfolding max_waiters
 prove-unreachable-requires-3 c =
     let a = step c.requires refl (take_out 4 1 running) c.take-first.ensures in
     let b = step a.is refl (take_out 4 1 running) c.take-second.ensures in
-    c.if-prove-3.true (rw (step b.is refl (take_out 8 6 running) c.take-eighth.ensures).code refl)
+    let s = step b.is refl (take_out 8 6 running) c.take-eighth.ensures in
+    clash (sym (rw (is_blocked c.take-eighth.result s.code) at c.eq-3.ensures) ∙ c.if-prove-3.true)
 
 pub prove-unreachable-requires-4 : goal.prove-unreachable-requires-4
 unfolding max_waiters
@@ -29,7 +34,8 @@ prove-unreachable-requires-4 c =
     let a = step c.requires refl (take_out 4 1 running) c.take-first.ensures in
     let b = step a.is refl (take_out 4 1 running) c.take-second.ensures in
     let d = step b.is refl (take_out 8 6 running) c.take-eighth.ensures in
-    c.if-prove-4.true (rw (step d.is refl (take_out 6 1 running) c.take-sixth.ensures).code refl)
+    let s = step d.is refl (take_out 6 1 running) c.take-sixth.ensures in
+    clash (sym (rw (is_blocked c.take-sixth.result s.code) at c.eq-4.ensures) ∙ c.if-prove-4.true)
 
 pub returns : goal.returns
 unfolding max_waiters

@@ -1,9 +1,10 @@
--- The test decides which. Assumes nothing.
-use borrow.Author.Tests.{eq-eqb, ne_eqb}
+-- A law on words for each type. Assumes nothing.
+use Rattle.std.proofs.Common.{arith}
+use Rattle.event.proofs.Words.{any_is, all_is}
 use Rattle.event.proofs.is_met.Goals as goal
 
-pub returns-then-wait_type-eq-WAIT_ALL : goal.returns-then-wait_type-eq-WAIT_ALL
-returns-then-wait_type-eq-WAIT_ALL c = rw (eq-eqb c.args.wait_type 1 c.if-wait_type-eq-WAIT_ALL.true) c.all_there.ensures
+pub returns-in-Any : goal.returns-in-Any
+returns-in-Any c = rw c.in-Any.is (any_is c.args.d c.args.e (omega arith) (omega arith))
 
-pub returns : goal.returns
-returns c = rw (ne_eqb c.args.wait_type 1 c.if-wait_type-eq-WAIT_ALL.false) c.any_there.ensures
+pub returns-in-All : goal.returns-in-All
+returns-in-All c = rw c.in-All.is (all_is c.args.d c.args.e (omega arith) (omega arith))

@@ -1,30 +1,39 @@
--- One law for each answer. Assumes nothing.
-use mathlib.Core.Path.{sym, ◌∙◌}
+-- The queue's answer is the futex's. Assumes nothing.
+use mathlib.Core.Path.{◌≡◌, sym, ap, ◌∙◌}
 use native.Mathlib.Omega.{arith}
-use Rattle.seq.proofs.Integers.{answered}
-use Rattle.futex.proofs.Answers.{words, wake_no, wake-everybody, wake-nobody, wake-short, wake-first}
+use borrow.Author.Rules.{rules}
+use lib.IntN.{pos}
+use lib.ListN.{get_or}
+use Rattle.std.proofs.Common.{Ok, Err, Some, None}
+use Rattle.thread.specs.Code.{code}
+use Rattle.thread.specs.Answer.{told}
+use Rattle.futex.proofs.Answers.{wake-first}
 use Rattle.futex.proofs.wake.Goals as goal
 
-pub returns-then-not-formed : goal.returns-then-not-formed
-returns-then-not-formed c = let a = c.args in wake_no a.h.now a.e.now a.wake_all a.out.now (sym c.formed.ensures ∙ c.if-not-formed.true)
+pub returns-in_err-who : goal.returns-in_err-who
+returns-in_err-who c =
+    let a = c.args in
+    let u = c.unpend_first in
+    let w : u.result ≡ Err c.in_err-who.field-0.0 = c.in_err-who.was in
+    let z : told pos c.from_residual.result ≡ code c.in_err-who.field-0.0 = search rules in
+    rw (c.if-wake_all.false, z)
+    (wake-first a.h.now a.e.now (sym c.formed.ensures ∙ c.if-not-formed.false) a.out.now (code c.in_err-who.field-0.0) u.new.len (get_or a.out.now 0 0)
+    (rw w at (u.ensures (get_or a.out.now 0 0))) (omega arith))
 
-pub bounds-h-1 : goal.bounds-h-1
-bounds-h-1 c = let a = c.args in omega (arith, words a.h.now a.e.now (sym c.formed.ensures ∙ c.if-not-formed.false))
+pub returns-in-Some : goal.returns-in-Some
+returns-in-Some c =
+    let a = c.args in
+    let u = c.unpend_first in
+    let w : u.result ≡ Ok (Some c.in-Some.who) = c.in_ok-who.was ∙ ap Ok c.in-Some.is in
+    rw c.if-wake_all.false
+    (wake-first a.h.now a.e.now (sym c.formed.ensures ∙ c.if-not-formed.false) a.out.now (pos 1) u.new.len c.in-Some.who
+    (rw w at (u.ensures (get_or a.out.now 0 0))) (omega arith))
 
-pub returns-then-wake_all : goal.returns-then-wake_all
-returns-then-wake_all c = let a = c.args in let u = c.unpend_all in rw (answered {z = u.result} u.type_inv, c.if-wake_all.true) (wake-everybody a.h.now a.e.now (sym c.formed.ensures ∙ c.if-not-formed.false) a.out.now u.result u.new.len u.new.out u.ensures)
-
-pub bounds-h-1-2 : goal.bounds-h-1-2
-bounds-h-1-2 c = let a = c.args in omega (arith, words a.h.now a.e.now (sym c.formed.ensures ∙ c.if-not-formed.false))
-
-pub returns-then-h-eq0 : goal.returns-then-h-eq0
-returns-then-h-eq0 c = let a = c.args in rw c.if-wake_all.false (wake-nobody a.h.now a.e.now (sym c.formed.ensures ∙ c.if-not-formed.false) a.out.now (omega arith))
-
-pub returns-then-out-lt1 : goal.returns-then-out-lt1
-returns-then-out-lt1 c = let a = c.args in rw c.if-wake_all.false (wake-short a.h.now a.e.now (sym c.formed.ensures ∙ c.if-not-formed.false) a.out.now (omega arith) (omega arith))
-
-pub bounds-h-1-3 : goal.bounds-h-1-3
-bounds-h-1-3 c = let a = c.args in omega (arith, words a.h.now a.e.now (sym c.formed.ensures ∙ c.if-not-formed.false))
-
-pub returns : goal.returns
-returns c = let a = c.args in let u = c.unpend_first in rw c.if-wake_all.false (wake-first a.h.now a.e.now (sym c.formed.ensures ∙ c.if-not-formed.false) a.out.now u.result u.new.len u.new.who (omega arith) (omega arith) u.ensures)
+pub returns-in-None : goal.returns-in-None
+returns-in-None c =
+    let a = c.args in
+    let u = c.unpend_first in
+    let w : u.result ≡ Ok None = c.in_ok-who.was ∙ ap Ok c.in-None.is in
+    rw c.if-wake_all.false
+    (wake-first a.h.now a.e.now (sym c.formed.ensures ∙ c.if-not-formed.false) a.out.now (pos 0) u.new.len (get_or a.out.now 0 0)
+    (rw w at (u.ensures (get_or a.out.now 0 0))) (omega arith))

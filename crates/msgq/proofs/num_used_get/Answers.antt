@@ -1,19 +1,6 @@
--- One law for each answer. Assumes nothing.
-use mathlib.Core.Path.{sym, ◌∙◌}
-use native.Mathlib.Omega.{arith}
-use Rattle.seq.proofs.Integers.{answered64}
-use Rattle.store.proofs.Laws.{looks_bad}
-use Rattle.msgq.specs.Post.{messages}
-use Rattle.msgq.proofs.Answers.{used-is}
-use Rattle.msgq.proofs.Headers.{was_false, passed}
-use Rattle.msgq.specs.Msgq.{num_used}
+-- By the lemma on what it answers. Assumes nothing.
+use Rattle.msgq.proofs.Answers.{used_is}
 use Rattle.msgq.proofs.num_used_get.Goals as goal
 
-pub returns-then-not-formed : goal.returns-then-not-formed
-returns-then-not-formed c = let a = c.args in sym (looks_bad messages a.h.now a.b.now num_used (was_false c.formed.ensures c.if-not-formed.true))
-
-pub bounds-h-2 : goal.bounds-h-2
-bounds-h-2 c = let a = c.args in let s = passed a.h.now a.b.now c.formed.ensures c.if-not-formed.false in omega arith
-
 pub returns : goal.returns
-returns c = let a = c.args in let s = passed a.h.now a.b.now c.formed.ensures c.if-not-formed.false in let u = c.signed in rw (answered64 {z = u.result} u.type_inv) (u.ensures ∙ used-is a.h.now a.b.now s)
+returns c = used_is c.in_ok-formed.ensures

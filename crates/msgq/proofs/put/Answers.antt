@@ -1,37 +1,13 @@
--- One law for each answer. Assumes nothing.
-use mathlib.Core.Path.{◌∙◌}
-use native.Mathlib.Omega.{arith}
-use lib.ListN.{length, get_or}
-use Rattle.msgq.proofs.Answers.{slot-fits, slot-below, did_size, put_full, put-done}
-use Rattle.msgq.proofs.Headers.{was_false, taken}
+-- By the lemma on what it answers. Assumes nothing.
+use Rattle.std.proofs.Common.{arith}
+use Rattle.msgq.proofs.Answers.{put_full, slot_fits, put_done}
 use Rattle.msgq.proofs.put.Goals as goal
 
-pub returns-then-not-sized : goal.returns-then-not-sized
-returns-then-not-sized c = let a = c.args in did_size a.h.now a.b.now (length a.msg.now) (was_false c.sized.ensures c.if-not-sized.true) _
-
-pub bounds-h-0 : goal.bounds-h-0
-bounds-h-0 c = let a = c.args in let s = taken a.h.now a.b.now (length a.msg.now) c.sized.ensures c.if-not-sized.false in omega arith
-
-pub bounds-h-2 : goal.bounds-h-2
-bounds-h-2 c = let a = c.args in let s = taken a.h.now a.b.now (length a.msg.now) c.sized.ensures c.if-not-sized.false in omega arith
-
-pub returns-then-used-max : goal.returns-then-used-max
-returns-then-used-max c = let a = c.args in let s = taken a.h.now a.b.now (length a.msg.now) c.sized.ensures c.if-not-sized.false in put_full a.h.now a.b.now s.0 a.msg.now s.1 (omega arith)
-
-pub bounds-h-1 : goal.bounds-h-1
-bounds-h-1 c = let a = c.args in let s = taken a.h.now a.b.now (length a.msg.now) c.sized.ensures c.if-not-sized.false in omega arith
-
-pub around-requires : goal.around-requires
-around-requires c = let a = c.args in let s = taken a.h.now a.b.now (length a.msg.now) c.sized.ensures c.if-not-sized.false in (omega arith, omega arith)
+pub returns-then-slots : goal.returns-then-slots
+returns-then-slots c = let s = c.in_ok-slots.ensures in put_full s.0 c.args.msg.now s.1 c.if-slots.true
 
 pub store-requires : goal.store-requires
-store-requires c = let a = c.args in let s = taken a.h.now a.b.now (length a.msg.now) c.sized.ensures c.if-not-sized.false in slot-fits a.h.now a.b.now s.0 (length a.msg.now) c.wide.result s.1 (slot-below a.h.now a.b.now s.0 (get_or a.h.now 2 0) c.wide.result (omega arith) (c.wide.ensures ∙ c.around.ensures))
-
-pub overflow_add-h : goal.overflow_add-h
-overflow_add-h c = let a = c.args in let s = taken a.h.now a.b.now (length a.msg.now) c.sized.ensures c.if-not-sized.false in omega (arith, c.slice_known-1.given 0)
-
-pub bounds-h-2-2 : goal.bounds-h-2-2
-bounds-h-2-2 c = let a = c.args in let s = taken a.h.now a.b.now (length a.msg.now) c.sized.ensures c.if-not-sized.false in omega arith
+store-requires c = let s = c.in_ok-slots.ensures in slot_fits s.0 _ _ _ s.1 c.behind.ensures (omega arith)
 
 pub returns : goal.returns
-returns c = let a = c.args in let s = taken a.h.now a.b.now (length a.msg.now) c.sized.ensures c.if-not-sized.false in put-done a.h.now a.b.now s.0 a.msg.now s.1 (omega arith) c.wide.result c.store.new.b (slot-below a.h.now a.b.now s.0 (get_or a.h.now 2 0) c.wide.result (omega arith) (c.wide.ensures ∙ c.around.ensures)) c.store.ensures (c.wide.ensures ∙ c.around.ensures)
+returns c = let s = c.in_ok-slots.ensures in put_done s.0 c.args.msg.now s.1 c.if-slots.false c.behind.result c.store.new.b c.store.ensures c.behind.ensures

@@ -1,18 +1,15 @@
 -- The length of the queue, if the semaphore is as it should be. Assumes nothing.
 use mathlib.Core.Path.{sym, ap, ◌∙◌}
-use native.Mathlib.Omega.{arith}
 use lib.IntN.{pos}
 use lib.ListN.{length, get_or}
 use Rattle.seq.proofs.Back.{back-length}
-use Rattle.seq.proofs.Integers.{answered64}
-use Rattle.sem.proofs.Answers.{words, got_no, got}
+use Rattle.kind.proofs.Answers.{seen}
+use Rattle.sem.specs.Sem.{sem_kind}
+use Rattle.sem.specs.Post.{layout}
 use Rattle.sem.proofs.num_waiters.Goals as goal
 
-pub returns-then-not-formed : goal.returns-then-not-formed
-returns-then-not-formed c = let a = c.args in got_no a.h.now a.e.now (λ s. length s.queue) (sym c.formed.ensures ∙ c.if-not-formed.true)
-
-pub bounds-h-2 : goal.bounds-h-2
-bounds-h-2 c = let a = c.args in omega (arith, words a.h.now a.e.now (sym c.formed.ensures ∙ c.if-not-formed.false))
-
-pub returns : goal.returns
-returns c = let a = c.args in let u = c.signed in rw (answered64 {z = u.result} u.type_inv) (u.ensures ∙ ap pos (sym (back-length a.e.now (get_or a.h.now 2 0))) ∙ got a.h.now a.e.now (sym c.formed.ensures ∙ c.if-not-formed.false) (λ s. length s.queue))
+pub returns-in-len3-up : goal.returns-in-len3-up
+returns-in-len3-up c =
+    let a = c.args in
+    ap pos (sym (back-length a.e.now (get_or a.h.now 2 0)))
+    ∙ seen sem_kind layout (λ s. pos (length s.queue)) a.h.now a.e.now (sym c.formed.ensures ∙ c.if-formed.true)

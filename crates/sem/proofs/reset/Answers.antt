@@ -1,25 +1,17 @@
 -- One law for each answer. Assumes nothing.
 use mathlib.Core.Path.{sym, ◌∙◌}
 use native.Mathlib.Omega.{arith}
-use lib.ListN.{length-set}
-use Rattle.seq.proofs.Integers.{answered}
 use Rattle.sem.proofs.Answers.{words, len-kept, cleared_no, cleared-short, cleared-all}
 use Rattle.sem.proofs.reset.Goals as goal
+use Rattle.sem.proofs.reset.Goals.{then-not-formed-via-then-not-formed, then-not-formed-via-else-not-formed+then-out-h}
 
 pub returns-then-not-formed : goal.returns-then-not-formed
-returns-then-not-formed c = let a = c.args in cleared_no a.h.now a.e.now a.out.now (sym c.formed.ensures ∙ c.if-not-formed.true)
-
-pub bounds-h-2 : goal.bounds-h-2
-bounds-h-2 c = let a = c.args in omega (arith, words a.h.now a.e.now (sym c.formed.ensures ∙ c.if-not-formed.false))
-
-pub returns-then-out-wide : goal.returns-then-out-wide
-returns-then-out-wide c = let a = c.args in cleared-short a.h.now a.e.now (sym c.formed.ensures ∙ c.if-not-formed.false) a.out.now (omega (arith, c.wide.ensures))
-
-pub bounds-h-0 : goal.bounds-h-0
-bounds-h-0 c = let a = c.args in omega (arith, words a.h.now a.e.now (sym c.formed.ensures ∙ c.if-not-formed.false))
-
-pub bounds-h-2-2 : goal.bounds-h-2-2
-bounds-h-2-2 c = let a = c.args in omega (arith, words a.h.now a.e.now (sym c.formed.ensures ∙ c.if-not-formed.false), length-set a.h.now 0 0)
+returns-then-not-formed c =
+    let a = c.args in
+    elim c.then-not-formed.branch [
+      | then-not-formed-via-then-not-formed w ↦ cleared_no a.h.now a.e.now a.out.now (sym c.formed.ensures ∙ w.if-not-formed.true)
+      | then-not-formed-via-else-not-formed+then-out-h w ↦ cleared-short a.h.now a.e.now (sym c.formed.ensures ∙ w.if-not-formed.false) a.out.now (omega arith)
+    ]
 
 pub returns : goal.returns
 returns c =
@@ -27,6 +19,4 @@ returns c =
     let u = c.unpend_all in
     let s = sym c.formed.ensures ∙ c.if-not-formed.false in
     let v = len-kept a.h.now (words a.h.now a.e.now s) 0 in
-    rw (answered {z = u.result} u.type_inv)
-    (cleared-all a.h.now a.e.now s a.out.now u.result u.new.len u.new.out (omega (arith, c.wide.ensures))
-    (rw v at u.ensures))
+    cleared-all a.h.now a.e.now s a.out.now _ u.new.len u.new.out (omega arith) (rw (v, c.code.ensures) at u.ensures)

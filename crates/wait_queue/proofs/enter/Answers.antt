@@ -1,4 +1,5 @@
--- The first is put at once, the second by its own law. Assumes nothing.
+-- Assumes nothing.
+use mathlib.Core.Path.{◌≡◌}
 use native.Mathlib.Omega.{arith}
 use Rattle.wait_queue.proofs.Memory.{max-two}
 use Rattle.wait_queue.proofs.Short.{first-joins}
@@ -7,8 +8,8 @@ use Rattle.wait_queue.proofs.enter.Goals as goal
 pub bounds-e-0 : goal.bounds-e-0
 bounds-e-0 c = omega (arith, max-two, c.limit.ensures)
 
-pub returns-then-n-eq0 : goal.returns-then-n-eq0
-returns-then-n-eq0 c =
+pub returns : goal.returns
+returns c =
     let a = c.args in
-    let z = c.if-n-eq0.true in
-    rw z (first-joins a.e.now a.id a.priority (omega (arith, c.limit.ensures)) (omega arith))
+    let z : a.len.now ≡ 0 = omega arith in
+    rw z (first-joins a.e.now a.caller.id a.caller.priority (omega (arith, c.limit.ensures)) (omega arith))

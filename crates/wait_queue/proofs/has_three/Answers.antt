@@ -1,24 +1,13 @@
-use mathlib.Core.Path.{◌≡◌}
+-- Assumes nothing.
+use mathlib.Core.Path.{sym, ◌∙◌}
 use Prim.Native.Nat.{◌+◌}
 use native.Mathlib.Omega.{arith}
-use Rattle.wait_queue.proofs.Loops.{absent_none, absent-next, hit_at}
+use lib.ListN.{length}
+use Rattle.wait_queue.proofs.Loops.{has_hit, has_more}
 use Rattle.wait_queue.proofs.has_three.Goals as goal
 
-pub loop-i-init : goal.loop-i-init
-loop-i-init c = let a = c.args in (omega arith, absent_none a.id a.e.now 0)
-
-pub returns-then-e-i : goal.returns-then-e-i
-returns-then-e-i c = let a = c.args in let l = c.loop-i in hit_at a.id a.e.now 0 a.n l.i (omega arith) (omega arith) c.if-e-i.true
-
-pub loop-i-preserved : goal.loop-i-preserved
-loop-i-preserved c =
+pub returns-then-ident-id : goal.returns-then-ident-id
+returns-then-ident-id c =
     let a = c.args in
-    let l = c.loop-i in
-    (omega arith, absent-next a.id a.e.now 0 (l.i + 1) l.i (omega arith) l.invariant.1 c.if-e-i.false)
-
-pub returns : goal.returns
-returns c =
-    let a = c.args in
-    let l = c.loop-i in
-    let q : l.i ≡ a.n = omega arith in
-    rw (← q) l.invariant.1
+    let i = c.loop-x.x-index in
+    has_more a.queue.now (i + 1) (length a.queue.now) a.id (omega arith) (has_hit a.queue.now i a.id (sym c.ident.ensures ∙ c.if-ident-id.true))

@@ -1,11 +1,8 @@
 -- None of those passed is the thread. Assumes nothing.
+use mathlib.Core.Path.{◌≡◌}
 use mathlib.Core.Bool.{false}
-use Prim.Native.Nat.{◌-◌, ◌≤◌}
-use Rattle.wait_queue.specs.Parts.{Searched}
+use Rattle.wait_queue.specs.Queue.{waiting, holds}
 use Rattle.wait_queue.proofs.has_three.Given as goal
 
-abbrev pub invariant-loop-i : goal.invariant-loop-i
-invariant-loop-i l = (l.i ≤ l.n) × Searched l.id l.e 0 l.i false
-
-abbrev pub decreases-loop-i : goal.decreases-loop-i
-decreases-loop-i l = l.n - l.i
+abbrev pub invariant-loop-x : goal.invariant-loop-x
+invariant-loop-x l = false ≡ holds l.id (waiting l.queue l.x-index)

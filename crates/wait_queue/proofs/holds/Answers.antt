@@ -1,14 +1,13 @@
--- Memory with room, then the search. Assumes nothing.
+-- Assumes nothing.
 use mathlib.Core.Path.{sym, ◌∙◌}
 use native.Mathlib.Omega.{arith}
 use Rattle.wait_queue.proofs.Memory.{is-roomy}
+use Rattle.wait_queue.proofs.Loops.{part_has}
 use Rattle.wait_queue.proofs.holds.Goals as goal
 
-pub returns-then-not-fits : goal.returns-then-not-fits
-returns-then-not-fits c = rw (sym c.fits.ensures ∙ c.if-not-fits.true)
-
-pub has-requires : goal.has-requires
-has-requires c = let a = c.args in let g = is-roomy a.n a.e.now (sym c.fits.ensures ∙ c.if-not-fits.false) in omega (arith, g.few, g.room, c.wide.ensures)
-
-pub returns : goal.returns
-returns c = rw (sym c.fits.ensures ∙ c.if-not-fits.false) (rw c.wide.ensures at c.has.ensures)
+pub returns-then-fits : goal.returns-then-fits
+returns-then-fits c =
+    let a = c.args in
+    let g = sym c.fits.ensures ∙ c.if-fits.true in
+    let m = is-roomy a.n a.e.now g in
+    rw g (part_has a.e.now a.n a.id c.has.result (omega (arith, m.few, m.room)) c.has.ensures)

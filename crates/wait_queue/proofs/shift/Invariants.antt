@@ -1,9 +1,6 @@
--- What was passed stands one up, and what stopped it is of lower priority. Assumes nothing.
+-- What was passed stands one up. Assumes nothing.
 use Rattle.wait_queue.specs.Parts.{Shifted}
 use Rattle.wait_queue.proofs.shift.Given as goal
 
 abbrev pub invariant-loop-i : goal.invariant-loop-i
 invariant-loop-i l = Shifted l.p l.n l.initial.e l.i l.e
-
-abbrev pub decreases-loop-i : goal.decreases-loop-i
-decreases-loop-i l = l.i

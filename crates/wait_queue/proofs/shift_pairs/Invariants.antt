@@ -1,9 +1,0 @@
--- What was passed stands one up, two at a time. Assumes nothing.
-use Rattle.wait_queue.specs.Parts.{Shifted}
-use Rattle.wait_queue.proofs.shift_pairs.Given as goal
-
-abbrev pub invariant-loop-i : goal.invariant-loop-i
-invariant-loop-i l = Shifted l.p l.n l.initial.e l.i l.e
-
-abbrev pub decreases-loop-i : goal.decreases-loop-i
-decreases-loop-i l = l.i

@@ -1,0 +1,6 @@
+-- The answer is that of the object's own function. Assumes nothing.
+use Rattle.seq.proofs.Integers.{answered}
+use Rattle.waitqueue.proofs.slabs.wq_mem_slab_free_decide.Goals as goal
+
+pub returns : goal.returns
+returns c = let u = c.freed in rw (answered {z = u.result} u.type_inv, u.ensures.code, u.ensures.word) (c.free_decide.ensures c.args.new_used.now)
