@@ -1,4 +1,5 @@
 -- No contract leaves anything open. Assumes nothing.
+use Rattle.thread.proofs.Determined as thread
 use Rattle.wait_queue.proofs.Determined as wait_queue
 use Rattle.sem.proofs.Determined as sem
 use Rattle.mutex.proofs.Determined as mutex
@@ -17,6 +18,7 @@ use Rattle.claims.specs.Covered.{Contracts}
 pub contracts : Contracts
 contracts =
     record {
+      answers = thread.determined;
       wait_queue = wait_queue.determined;
       semaphore = sem.determined;
       mutex = mutex.determined;

@@ -1,4 +1,5 @@
 -- The contracts of the code: no contract of a public function leaves anything open.
+use Rattle.thread.specs.Determined as thread
 use Rattle.wait_queue.specs.Determined as wait_queue
 use Rattle.sem.specs.Determined as sem
 use Rattle.mutex.specs.Determined as mutex
@@ -13,8 +14,10 @@ use Rattle.event.specs.Determined as event
 use Rattle.timer.specs.Determined as timer
 use Rattle.timeout.specs.Determined as timeout
 
--- of two outcomes from the same memory and the same numbers that both meet a contract, the answers are the same, and so is every word
+-- of two outcomes from the same memory and the same numbers that both meet a contract, the answers are the same, and so is every word: a contract fixes
+-- a number and words, and these tell which answer it is
 pub record Contracts : Type 0 where
+  pub answers : thread.Determined
   pub wait_queue : wait_queue.Determined
   pub semaphore : sem.Determined
   pub mutex : mutex.Determined

@@ -1,9 +1,10 @@
 -- The condition variable's contracts leave nothing open, also not of the mutex that a wait gives back. Assumes nothing.
-use mathlib.Core.Path.{◌≡◌, refl, sym, subst, ◌∙◌}
+use mathlib.Core.Path.{◌≡◌, refl, sym, ap, subst, ◌∙◌}
 use mathlib.Core.Bool.{Bool, true, false}
 use mathlib.Core.List.{List, [], ◌∷◌}
-use Prim.Native.Nat.{ℕ}
+use Prim.Native.Nat.{ℕ, zero, suc}
 use lib.IntN.{ℤ, pos, negsuc}
+use lib.Signed.{mag}
 use lib.ListN.{length}
 use Rattle.seq.specs.Only.{Only}
 use Rattle.seq.specs.List.{back}
@@ -22,6 +23,9 @@ use Rattle.mutex.proofs.Determined as mutex-only
 use Rattle.condvar.specs.Condvar.{condvar_kind}
 use Rattle.condvar.specs.Post.{layout, place, signal_out, broadcast_out, wait_out, Waits, SignalDecided, BroadcastDecided, WaitDecided}
 use Rattle.condvar.specs.Determined.{Determined}
+use Rattle.condvar.specs.Answer.{to_signal}
+use Rattle.condvar.specs.declared.SignalAction.{SignalAction}
+use Rattle.condvar.specs.declared.SignalAction.TheVariants as signals
 
 -- the one word is the length of the queue
 legible : Legible layout
@@ -76,6 +80,16 @@ module _ (i p st : ℕ) (h e m d : List ℕ) (w : ℕ) where
       let z = left-only x.0 s t u.neither a u.both b u.written v.written in
       λ j. (c j, (z j).0, (z j).1, (z j).2, (z j).3)
 
+-- which action has a number
+action-of : ℕ → SignalAction
+action-of zero = signals.Noop
+action-of (suc n) = signals.WakeOne
+
+action-back : (x : SignalAction) → action-of (mag (to_signal x)) ≡ x
+unfolding action-of
+action-back signals.Noop = refl
+action-back signals.WakeOne = refl
+
 pub determined : Determined
 determined =
     record {
@@ -89,4 +103,5 @@ determined =
       num_waiters = λ h e. said _;
       has_waiters = λ h e. said _;
       audit = audited_only condvar_kind layout;
+      signal_decide_answer = λ x y e. sym (action-back x) ∙ ap (λ z. action-of (mag z)) e ∙ action-back y;
     }

@@ -1,8 +1,10 @@
 -- No contract of a public function leaves anything open: of two outcomes from the same memory and the same numbers that both meet it, the answers
--- are the same, and so is every word.
-use Rattle.std.specs.Prelude.{Bool, List, ℕ, ℤ}
+-- are the same, and so is every word. The number that a clause names tells which answer it is.
+use Rattle.std.specs.Prelude.{◌≡◌, Bool, List, ℕ, ℤ}
 use Rattle.seq.specs.Only.{Only}
 use Rattle.condvar.specs.Post.{Starts, Signals, Broadcasts, Waits, CountsWaiters, SaysHasWaiters, Audits, SignalDecided, BroadcastDecided, WaitDecided}
+use Rattle.condvar.specs.Answer.{to_signal}
+use Rattle.condvar.specs.declared.SignalAction.{SignalAction}
 
 pub record Determined : Type 0 where
   pub signal_decide : (waiter : Bool) → Only (λ (r : ℤ). SignalDecided waiter r)
@@ -16,3 +18,4 @@ pub record Determined : Type 0 where
   pub num_waiters : (h e : List ℕ) → Only (λ (r : ℤ). CountsWaiters h e r)
   pub has_waiters : (h e : List ℕ) → Only (λ (r : ℤ). SaysHasWaiters h e r)
   pub audit : (h e : List ℕ) → Only (λ (r : Bool). Audits h e r)
+  pub signal_decide_answer : (x y : SignalAction) → to_signal x ≡ to_signal y → x ≡ y

@@ -2,7 +2,10 @@
 -- are the same, and so is every word.
 use Rattle.std.specs.Prelude.{Bool, List, ℕ, ℤ}
 use Rattle.seq.specs.Only.{Only}
+use Rattle.thread.specs.Answer.{TellsBy}
 use Rattle.event.specs.Post.{Starts, Posts, Sets, SetsMasked, Clears, ChecksAny, ChecksAll, GetsEvents, WaitDecided, PostDecided}
+use Rattle.event.specs.Event.{decided, its_flags}
+use Rattle.event.specs.declared.WaitDecideResult.{WaitDecideResult}
 
 pub record Determined : Type 0 where
   pub init : (h : List ℕ) → Only (λ ((r, h') : ℤ × List ℕ). Starts h r h')
@@ -15,3 +18,5 @@ pub record Determined : Type 0 where
   pub events_get : (h : List ℕ) → Only (λ (r : ℤ). GetsEvents h r)
   pub wait_decide : (e desired type : ℕ) (no_wait : Bool) (n : ℕ) → Only (λ ((r, n') : ℤ × ℕ). WaitDecided e desired type no_wait n r n')
   pub post_decide : (e new mask : ℕ) → Only (λ (r : ℕ). PostDecided e new mask r)
+  -- the number and the words tell which answer it is
+  pub wait_answer : TellsBy {T = WaitDecideResult} decided its_flags

@@ -1,14 +1,16 @@
 -- The futex's contracts leave nothing open. Assumes nothing.
-use mathlib.Core.Path.{sym, ◌∙◌}
+use mathlib.Core.Path.{sym, ◌∙◌, refl}
 use mathlib.Core.Bool.{Bool}
 use mathlib.Core.List.{[], ◌∷◌}
 use Prim.Native.Nat.{ℕ}
 use lib.IntN.{ℤ}
 use lib.ListN.{length}
+use lib.Signed.{mag}
 use Rattle.seq.specs.Only.{Only}
 use Rattle.seq.specs.List.{back}
 use Rattle.seq.proofs.Back.{back-length}
 use Rattle.seq.proofs.Only.{said, back_alike}
+use Rattle.thread.proofs.Determined.{tells-by}
 use Rattle.store.specs.Determined.{Faithful}
 use Rattle.store.proofs.Determined.{did_only, reads_only, fills_only, decided-only}
 use Rattle.kind.specs.Determined.{Legible}
@@ -16,6 +18,7 @@ use Rattle.kind.proofs.Determined.{faithful, opened-only, audited_only}
 use Rattle.futex.specs.Futex.{futex_kind}
 use Rattle.futex.specs.Post.{layout, place, wait_out, wake_out, set_out, WaitDecided, WakeDecided}
 use Rattle.futex.specs.Determined.{Determined}
+use Rattle.futex.specs.Decision.{woken, remaining}
 use Rattle.futex.proofs.Law.{mk}
 
 -- the two words are the value and the length of the queue
@@ -46,4 +49,5 @@ determined =
       val_get = λ h e. said _;
       num_waiters = λ h e. said _;
       audit = audited_only futex_kind layout;
+      wake_answer = tells-by woken (λ x. refl) remaining (λ x y e k i. record { woken = mag (e i); remaining = k 0 i });
     }

@@ -2,7 +2,10 @@
 -- are the same, and so is every word.
 use Rattle.std.specs.Prelude.{Bool, List, ℕ, ℤ}
 use Rattle.seq.specs.Only.{Only}
+use Rattle.thread.specs.Answer.{TellsBy}
 use Rattle.futex.specs.Post.{Starts, Waits, Wakes, SetsVal, GetsVal, CountsWaiters, Audits, WaitDecided, WakeDecided}
+use Rattle.futex.specs.Decision.{woken, remaining}
+use Rattle.futex.specs.declared.WakeDecision.{WakeDecision}
 
 pub record Determined : Type 0 where
   pub wait_decide : (val expected : ℕ) → Only (λ (r : ℤ). WaitDecided val expected r)
@@ -14,3 +17,5 @@ pub record Determined : Type 0 where
   pub val_get : (h e : List ℕ) → Only (λ (r : ℤ). GetsVal h e r)
   pub num_waiters : (h e : List ℕ) → Only (λ (r : ℤ). CountsWaiters h e r)
   pub audit : (h e : List ℕ) → Only (λ (r : Bool). Audits h e r)
+  -- the number and the words tell which answer it is
+  pub wake_answer : TellsBy {T = WakeDecision} woken remaining

@@ -2,7 +2,11 @@
 -- are the same, and so is every word.
 use Rattle.std.specs.Prelude.{Bool, List, ℕ, ℤ}
 use Rattle.seq.specs.Only.{Only}
+use Rattle.thread.specs.Answer.{TellsBy}
 use Rattle.mem_slab.specs.Post.{CountsUsed, CountsFree, CountsBlocks, GetsBlockSize, SaysFull, SaysEmpty, Allocs, Frees, Starts, AllocDecided, FreeDecided}
+use Rattle.mem_slab.specs.Answer.{alloc_number, alloc_used, free_number, free_used}
+use Rattle.mem_slab.specs.declared.AllocDecision.{AllocDecision}
+use Rattle.mem_slab.specs.declared.FreeDecision.{FreeDecision}
 
 pub record Determined : Type 0 where
   pub alloc_decide : (used blocks : ℕ) (no_wait : Bool) (n : ℕ) → Only (λ ((r, n') : ℤ × ℕ). AllocDecided used blocks no_wait n r n')
@@ -16,3 +20,6 @@ pub record Determined : Type 0 where
   pub block_size_get : (h l : List ℕ) → Only (λ (r : ℤ). GetsBlockSize h l r)
   pub is_full : (h l : List ℕ) → Only (λ (r : ℤ). SaysFull h l r)
   pub is_empty : (h l : List ℕ) → Only (λ (r : ℤ). SaysEmpty h l r)
+  -- the number and the words tell which answer it is
+  pub alloc_answer : (used : ℕ) → TellsBy {T = AllocDecision} alloc_number (alloc_used used)
+  pub free_answer : (used : ℕ) → TellsBy {T = FreeDecision} free_number (free_used used)

@@ -1,14 +1,19 @@
 -- The message queue's contracts leave nothing open. Assumes nothing.
 use mathlib.Core.Path.{◌≡◌, refl, sym, ap, ◌∙◌}
 use mathlib.Core.List.{List, [], ◌∷◌, ◌++◌}
+use mathlib.Core.Bool.{cond}
 use Prim.Native.Nat.{ℕ, zero, suc, ◌+◌, ◌*◌, ◌<◌}
 use native.Mathlib.Nat.{suc-mul, zero-mul}
 use native.Mathlib.Omega.{arith}
-use lib.IntN.{ℤ}
+use lib.IntN.{ℤ, pos}
 use lib.ListN.{length, take, drop, get_or}
 use lib.Seq.{take-add}
+use lib.Dec.{eqb}
+use lib.Signed.{mag}
 use Rattle.seq.specs.Only.{Only}
 use Rattle.seq.proofs.Only.{said, back_alike}
+use Rattle.thread.specs.Answer.{TellsByTwo, done}
+use Rattle.thread.proofs.Determined.{tells-by-two}
 use Rattle.store.specs.Store.{Reply}
 use Rattle.store.specs.Determined.{Faithful}
 use Rattle.store.proofs.Determined.{did_only, reads_only, fills_only, starts_only, decided-only}
@@ -18,6 +23,12 @@ use Rattle.msgq.specs.Messages.{slots}
 use Rattle.msgq.specs.Msgq.{Msgq, Numbers, put, put_front, get, peek, purge}
 use Rattle.msgq.specs.Post.{messages, new, may, put_decision, get_decision, put_front_decision, peek_decision, Settled}
 use Rattle.msgq.specs.Determined.{Determined}
+use Rattle.msgq.specs.Decision.{put_code, get_code}
+use Rattle.msgq.specs.declared.PutDecision.{PutDecision}
+use Rattle.msgq.specs.declared.PutDecision.TheVariants as putting
+use Rattle.msgq.specs.declared.GetDecision.{GetDecision}
+use Rattle.msgq.specs.declared.GetDecision.TheVariants as getting
+use Rattle.msgq.specs.declared.DecideResult.{DecideResult}
 use Rattle.msgq.proofs.Messages.{length-slots}
 use Rattle.msgq.proofs.Headers.{from-sound}
 use Rattle.msgq.proofs.Answers.{hold}
@@ -56,6 +67,42 @@ settled_only d i u x y m k =
     let b : x.2 ≡ y.2 = m.used ∙ sym k.used in
     λ j. (r j, a j, b j)
 
+-- which decision has a number
+a_put : ℤ → PutDecision
+a_put z = cond (eqb (mag z) 0) putting.Store (cond (eqb (mag z) 1) putting.WakeReader putting.Pend)
+
+a_put-told : (d : PutDecision) → a_put (put_code d) ≡ d
+unfolding a_put
+a_put-told putting.Store = refl
+a_put-told putting.WakeReader = refl
+a_put-told putting.Pend = refl
+
+put-number : (d : PutDecision) → put_code d ≡ pos (mag (put_code d))
+put-number putting.Store = refl
+put-number putting.WakeReader = refl
+put-number putting.Pend = refl
+
+a_get : ℤ → GetDecision
+a_get z = cond (eqb (mag z) 0) getting.Read (cond (eqb (mag z) 1) getting.WakeWriter getting.Pend)
+
+a_get-told : (d : GetDecision) → a_get (get_code d) ≡ d
+unfolding a_get
+a_get-told getting.Read = refl
+a_get-told getting.WakeWriter = refl
+a_get-told getting.Pend = refl
+
+get-number : (d : GetDecision) → get_code d ≡ pos (mag (get_code d))
+get-number getting.Read = refl
+get-number getting.WakeWriter = refl
+get-number getting.Pend = refl
+
+-- the two words are the index and the count, and a number that tells the decision tells all
+settled-told : {D : Type 0} (f : D → ℤ) → ((x : D) → f x ≡ pos (mag (f x))) → ((x y : D) → f x ≡ f y → x ≡ y)
+    → TellsByTwo {T = DecideResult D} (λ d. f d.decision) (λ d _. d.new_idx) (λ d _. d.new_used)
+settled-told f p q =
+    tells-by-two (λ d. f d.decision) (λ d. p d.decision) (λ d _. d.new_idx) (λ d _. d.new_used)
+    (λ x y e k l i. record { decision = q x.decision y.decision e i; new_idx = k 0 i; new_used = l 0 i })
+
 pub determined : Determined
 determined =
     record {
@@ -77,4 +124,7 @@ determined =
       is_empty = λ h b. said _;
       read_idx_get = λ h b. said _;
       write_idx_get = λ h b. said _;
+      put_answer = settled-told put_code put-number (λ x y e. sym (a_put-told x) ∙ (λ i. a_put (e i)) ∙ a_put-told y);
+      get_answer = settled-told get_code get-number (λ x y e. sym (a_get-told x) ∙ (λ i. a_get (e i)) ∙ a_get-told y);
+      put_front_answer = settled-told done (λ x. refl) (λ x y e. refl);
     }

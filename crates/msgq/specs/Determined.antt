@@ -1,8 +1,13 @@
 -- No contract of a public function leaves anything open: of two outcomes from the same memory and the same numbers that both meet it, the answers
 -- are the same, and so is every word and every byte.
-use Rattle.std.specs.Prelude.{Bool, List, ℕ, ℤ}
+use Rattle.std.specs.Prelude.{Bool, List, ℕ, ℤ, ⊤}
 use Rattle.seq.specs.Only.{Only}
+use Rattle.thread.specs.Answer.{TellsByTwo, done}
 use Rattle.msgq.specs.Post.{PutDecided, GetDecided, PutFrontDecided, PeekAtDecided, Starts, Puts, PutsFront, Gets, PeeksAt, Purges, CountsFree, CountsUsed, GetsMsgSize, GetsMaxMsgs, SaysFull, SaysEmpty, GetsReadIdx, GetsWriteIdx}
+use Rattle.msgq.specs.Decision.{put_code, get_code}
+use Rattle.msgq.specs.declared.PutDecision.{PutDecision}
+use Rattle.msgq.specs.declared.GetDecision.{GetDecision}
+use Rattle.msgq.specs.declared.DecideResult.{DecideResult}
 
 pub record Determined : Type 0 where
   pub put_decide : (w n c : ℕ) (reader no_wait : Bool) (i u : ℕ) → Only (λ ((r, i', u') : ℤ × ℕ × ℕ). PutDecided w n c reader no_wait i u r i' u')
@@ -23,3 +28,7 @@ pub record Determined : Type 0 where
   pub is_empty : (h b : List ℕ) → Only (λ (r : ℤ). SaysEmpty h b r)
   pub read_idx_get : (h b : List ℕ) → Only (λ (r : ℤ). GetsReadIdx h b r)
   pub write_idx_get : (h b : List ℕ) → Only (λ (r : ℤ). GetsWriteIdx h b r)
+  -- the number and the words tell which answer it is
+  pub put_answer : TellsByTwo {T = DecideResult PutDecision} (λ d. put_code d.decision) (λ d _. d.new_idx) (λ d _. d.new_used)
+  pub get_answer : TellsByTwo {T = DecideResult GetDecision} (λ d. get_code d.decision) (λ d _. d.new_idx) (λ d _. d.new_used)
+  pub put_front_answer : TellsByTwo {T = DecideResult ⊤} done (λ d _. d.new_idx) (λ d _. d.new_used)

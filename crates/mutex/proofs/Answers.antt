@@ -4,36 +4,36 @@ use mathlib.Core.Bool.{Bool, true, false, cond}
 use mathlib.Core.List.{List, [], ◌∷◌, map}
 use Prim.Native.Nat.{ℕ, zero, suc, ◌≤◌, ◌<◌}
 use native.Mathlib.Omega.{arith}
-use lib.Dec.{ltb, eqb}
+use lib.Dec.{ltb, leb, eqb}
 use lib.IntN.{ℤ, pos, negsuc}
 use lib.Signed.{mag}
 use lib.ListN.{length, get_or, set, drop}
 use lib.Seq.{set-get_or}
-use borrow.Author.Tests.{le-leb, lt-ltb, le-ltb, ltb-true, ltb-false, eq-eqb, ne_eqb, eqb-true}
+use borrow.Author.Tests.{le-leb, leb-true, lt-ltb, le-ltb, ltb-true, ltb-false, eq-eqb, ne_eqb, eqb-true}
 use Rattle.seq.specs.List.{any}
 use Rattle.seq.proofs.Back.{back-length}
 use Rattle.seq.proofs.Words.{spell}
+use Rattle.seq.proofs.Order.{clash}
 use Rattle.thread.specs.Code.{ok, eperm, ebusy, einval, edeadlk, eoverflow, code}
 use Rattle.thread.specs.declared.Errno.{Errno}
 use Rattle.thread.specs.declared.Errno.TheVariants as errno
 use Rattle.thread.specs.Caller.{caller_code}
 use Rattle.store.specs.Store as store
 use Rattle.store.specs.Store.{refuse, accept, answer, out, reply, Did, Hands}
-use Rattle.store.proofs.Laws.{no_code, not-one, hands_bad, did_alike, answers, kept_bad, found}
+use Rattle.store.proofs.Laws.{no_code, not-one, refuses, hands_bad, did_alike, answers, kept_bad, found}
 use Rattle.wait_queue.specs.Queue.{ident, woken, waiting, roomy}
 use Rattle.wait_queue.specs.Turn.{wait_queue, waits, unpend_first}
-use Rattle.wait_queue.specs.Post.{Enters, UnpendsFirst}
-use Rattle.wait_queue.proofs.Answers.{pend_parks}
+use Rattle.wait_queue.specs.Post.{Pends, UnpendsFirst}
 use Rattle.kind.specs.Verdict.{Verdict, deny}
 use Rattle.kind.specs.Kind.{plain}
 use Rattle.kind.specs.Object as object
-use Rattle.kind.specs.Object.{Object, Caller, named, carried, Opened, sane}
+use Rattle.kind.specs.Object.{Object, Caller, named, carried, Opened, sized, sane}
 use Rattle.kind.proofs.Memory.{Housed, Header, is-on, renumbered, turned, is-sane}
 use Rattle.kind.proofs.Answers.{verdict, call_no, call_barred, call-is, waits-now, unseen, seen, opens-short, opens-made}
 use Rattle.mutex.specs.Mutex.{nobody, Mutex, lock, unlock, release, formed, max_count, released, unlocked, transferred, free, taken, counting, passes, mutex_kind}
 use Rattle.mutex.specs.Post.{owner_in, layout, place, unlock_out, lock_out, pass_out, release_out, ReleaseDecided, Gets, CountsWaiters, Written, unlock_deed, LockDecided, UnlockDecided}
 use Rattle.mutex.proofs.Law.{mk, free-fine, free-empty}
-use Rattle.mutex.proofs.Written.{now, unwritten, frees, joins, passes as passed_on}
+use Rattle.mutex.proofs.Written.{now, unwritten, frees, passes as passed_on}
 
 -- on plain numbers
 module _ (c : ℕ) where
@@ -135,6 +135,9 @@ module _ (f o c n : ℕ) (s : formed (mk (owner_in f o) c) (ltb 0 n) ≡ true) w
   alone z = ltb-false 0 n (free-empty c (ltb 0 n) (rw z at s)).1
 
 module _ (h e : List ℕ) where
+  pub lock_no : (i p st : ℕ) → sane mutex_kind layout h e ≡ false → Did place (lock_out i p st) h e einval h e
+  lock_no i p st s = refuses place (lock_out i p st) h e (call_no mutex_kind layout plain (object.thread i p st) lock h e s)
+
   pub release_no : (i p st : ℕ) → sane mutex_kind layout h e ≡ false → ReleaseDecided i p st h e einval
   release_no i p st s = ap answer (sym (call_no mutex_kind layout plain (object.thread i p st) release h e s))
 
@@ -144,9 +147,6 @@ module _ (h e : List ℕ) where
   module _ (s : sane mutex_kind layout h e ≡ true) where
     fine : formed (mk (owner_in (get_or h 0 0) (get_or h 1 0)) (get_or h 2 0)) (ltb 0 (get_or h 3 0)) ≡ true
     fine = (is-sane mutex_kind layout h e s).numbers
-
-    pub words : 4 ≤ length h
-    words = (is-sane mutex_kind layout h e s).housed.words
 
     pub held-flag : 0 < get_or h 2 0 → ltb 0 (get_or h 0 0) ≡ true
     held-flag k = flagged (get_or h 0 0) (get_or h 1 0) (get_or h 2 0) (get_or h 3 0) fine k
@@ -168,18 +168,8 @@ module _ (h e : List ℕ) where
         ∙ by-any (named i) (layout.num h) (waiting e (get_or h 3 0))) in
         (did_alike place pass_out (unlock_out i) h e u t.0, rw u at t.1)
 
-    -- lock_blocking
+    -- release_decide
     module _ (i p st : ℕ) where
-      -- the thread waits, or the queue refuses it
-      pub lock-waits : (c : ℕ) → caller_code p st ≡ pos c → 0 < get_or h 2 0 → (get_or h 1 0 ≡ i → ⊥) → (r : ℤ) (m : ℕ) (e' : List ℕ)
-          → Enters i p (get_or h 3 0) e r m e' → Did place (lock_out i p st) h e r (set h 3 m) e' × Written h (set h 3 m)
-      lock-waits c z k n r m e' d =
-          let q = pend_parks (get_or h 3 0) e i p st c z r m e' d in (
-            waits-now mutex_kind layout plain i p st lock h e tt waits r m e' words fine (rw (held-flag k, ne_eqb (get_or h 1 0) i n)) q (fewer h words m),
-            joins h words e r m e' i p st q,
-          )
-
-      -- release_decide
       pub release-caller : (c : ℕ) → caller_code p st ≡ negsuc c → ReleaseDecided i p st h e (negsuc c)
       release-caller c z = ap answer (sym (call_barred mutex_kind layout plain (object.thread i p st) release h e s c z))
 
@@ -231,6 +221,25 @@ module _ (h e : List ℕ) where
 
     pub got-waiters : CountsWaiters h e (pos (get_or h 3 0))
     got-waiters = ap pos (sym (back-length e (get_or h 3 0))) ∙ got (λ m. pos (length m.queue))
+
+-- what the words show one by one
+module _ (h e : List ℕ) (z : sized 4 h e ≡ true) where
+  pub its_words : 4 ≤ length h
+  its_words = go (leb 4 (length h)) refl z
+    where
+      go : (a : Bool) → leb 4 (length h) ≡ a → cond a (roomy 0 e) false ≡ true → 4 ≤ length h
+      go true x y = leb-true 4 (length h) x
+      go false x y = clash (sym y)
+
+  pub held_yes : 0 < get_or h 0 0 → 0 < get_or h 2 0 → roomy (get_or h 3 0) e ≡ true → sane mutex_kind layout h e ≡ true
+  held_yes f c r = rw (le-leb 4 (length h) its_words, r, lt-ltb 0 (get_or h 0 0) f) (lt-ltb 0 (get_or h 2 0) c)
+
+  -- the thread waits, whatever the queue says
+  pub lock-waits : (i p st : ℕ) → 0 < get_or h 0 0 → 0 < get_or h 2 0 → (get_or h 1 0 ≡ i → ⊥) → (r : ℤ) (m : ℕ) (e' : List ℕ)
+      → Pends i p st (get_or h 3 0) e r m e' → Did place (lock_out i p st) h e r (set h 3 m) e'
+  lock-waits i p st f c n r m e' d =
+      waits-now mutex_kind layout plain i p st lock h e tt waits r m e' its_words (rw (lt-ltb 0 (get_or h 0 0) f) (lt-ltb 0 (get_or h 2 0) c))
+      (rw (lt-ltb 0 (get_or h 0 0) f, ne_eqb (get_or h 1 0) i n)) d (fewer h its_words m)
 
 -- a refusal is below 0
 pub below : (x : Errno) → (k : ℕ) × (code x ≡ negsuc k)

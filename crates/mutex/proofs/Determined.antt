@@ -2,14 +2,16 @@
 use mathlib.Core.Path.{◌≡◌, refl, sym, ap, ◌∙◌}
 use mathlib.Core.Bool.{Bool, true, false}
 use mathlib.Core.List.{List, [], ◌∷◌}
-use Prim.Native.Nat.{ℕ, ◌<◌}
+use Prim.Native.Nat.{ℕ, zero, suc, ◌<◌}
 use native.Mathlib.Omega.{arith}
 use lib.Dec.{ltb}
-use lib.IntN.{ℤ}
+use lib.IntN.{ℤ, pos}
+use lib.Signed.{mag}
 use lib.ListN.{get_or}
 use borrow.Author.Tests.{ltb-true, ltb-false}
 use Rattle.seq.specs.Only.{Only, Alike}
 use Rattle.seq.proofs.Only.{said, and, exactly, back_alike}
+use Rattle.thread.proofs.Determined.{tells, tells-by}
 use Rattle.store.specs.Store.{Reply, Did, Hands}
 use Rattle.store.proofs.Determined.{Outcome}
 use Rattle.kind.specs.Object.{Object}
@@ -17,6 +19,15 @@ use Rattle.kind.proofs.Determined.{same_outcome, same_start}
 use Rattle.mutex.specs.Mutex.{nobody, thread, Mutex, free, mutex_kind}
 use Rattle.mutex.specs.Post.{owner_in, layout, place, try_lock_out, unlock_out, lock_out, pass_out, Starts, Written, Audits, LockDecided, UnlockDecided}
 use Rattle.mutex.specs.Determined.{Determined}
+use Rattle.mutex.specs.Answer.{to_lock, to_unlock, to_release, unlocking, heir}
+use Rattle.mutex.specs.declared.LockDecision.{LockDecision}
+use Rattle.mutex.specs.declared.LockDecision.TheVariants as locking
+use Rattle.mutex.specs.declared.UnlockDecisionKind.{UnlockDecisionKind}
+use Rattle.mutex.specs.declared.UnlockDecisionKind.TheVariants as kinds
+use Rattle.mutex.specs.declared.ReleaseDecision.{ReleaseDecision}
+use Rattle.mutex.specs.declared.ReleaseDecision.TheVariants as releasing
+use Rattle.mutex.specs.declared.UnlockResult.{UnlockResult}
+use Rattle.mutex.specs.declared.UnlockResult.TheVariants as results
 
 module _ (h h₁ h₂ : List ℕ) (u : Written h h₁) (v : Written h h₂) (l : get_or h₁ 3 0 ≡ get_or h₂ 3 0) where
   flags : 0 < get_or h₁ 0 0 → 0 < get_or h₂ 0 0 → get_or h₁ 0 0 ≡ get_or h₂ 0 0
@@ -75,6 +86,67 @@ lock-only count null current no_wait x y m k = m 0 1 [] other refl ∙ sym (k 0 
 unlock-only : (count : ℕ) (null current : Bool) → Only (λ (r : ℤ). UnlockDecided count null current r)
 unlock-only count null current x y m k = m 0 1 [] other ∙ sym (k 0 1 [] other)
 
+-- which answer has a number
+lock-of : ℕ → LockDecision
+lock-of zero = locking.Acquire
+lock-of (suc zero) = locking.Pend
+lock-of (suc (suc n)) = locking.Reentrant
+
+lock-back : (x : LockDecision) → lock-of (mag (to_lock x)) ≡ x
+unfolding lock-of
+lock-back locking.Acquire = refl
+lock-back locking.Pend = refl
+lock-back locking.Reentrant = refl
+
+lock-number : (x : LockDecision) → to_lock x ≡ pos (mag (to_lock x))
+lock-number locking.Acquire = refl
+lock-number locking.Pend = refl
+lock-number locking.Reentrant = refl
+
+kind-of : ℕ → UnlockDecisionKind
+kind-of zero = kinds.Released
+kind-of (suc n) = kinds.FullyUnlocked
+
+kind-back : (x : UnlockDecisionKind) → kind-of (mag (to_unlock x)) ≡ x
+unfolding kind-of
+kind-back kinds.Released = refl
+kind-back kinds.FullyUnlocked = refl
+
+kind-number : (x : UnlockDecisionKind) → to_unlock x ≡ pos (mag (to_unlock x))
+kind-number kinds.Released = refl
+kind-number kinds.FullyUnlocked = refl
+
+release-of : ℕ → ReleaseDecision
+release-of zero = releasing.Unlocked
+release-of (suc zero) = releasing.Unlocked
+release-of (suc (suc n)) = releasing.Transferred
+
+release-back : (x : ReleaseDecision) → release-of (mag (to_release x)) ≡ x
+unfolding release-of
+release-back releasing.Unlocked = refl
+release-back releasing.Transferred = refl
+
+release-number : (x : ReleaseDecision) → to_release x ≡ pos (mag (to_release x))
+release-number releasing.Unlocked = refl
+release-number releasing.Transferred = refl
+
+-- whom an unlock tells is the word, and of the others there is one each
+result-of : ℕ → ℕ → UnlockResult
+result-of zero w = results.Released
+result-of (suc zero) w = results.Unlocked
+result-of (suc (suc n)) w = results.Transferred w
+
+result-back : (x : UnlockResult) → result-of (mag (unlocking x)) (heir x 0) ≡ x
+unfolding result-of
+result-back results.Released = refl
+result-back results.Unlocked = refl
+result-back (results.Transferred w) = refl
+
+result-number : (x : UnlockResult) → unlocking x ≡ pos (mag (unlocking x))
+result-number results.Released = refl
+result-number results.Unlocked = refl
+result-number (results.Transferred w) = refl
+
 pub determined : Determined
 determined =
     record {
@@ -91,4 +163,10 @@ determined =
       num_waiters = λ h e. said _;
       owner_get = λ h e. said _;
       audit = audit-only;
+      lock_decide_answer = tells to_lock lock-number (λ x y e. sym (lock-back x) ∙ ap (λ z. lock-of (mag z)) e ∙ lock-back y);
+      unlock_decide_answer = tells to_unlock kind-number (λ x y e. sym (kind-back x) ∙ ap (λ z. kind-of (mag z)) e ∙ kind-back y);
+      release_decide_answer = tells to_release release-number (λ x y e. sym (release-back x) ∙ ap (λ z. release-of (mag z)) e ∙ release-back y);
+      unlock_answer =
+          tells-by unlocking result-number heir
+          (λ x y e k. sym (result-back x) ∙ (λ i. result-of (mag (e i)) (k 0 i)) ∙ result-back y);
     }

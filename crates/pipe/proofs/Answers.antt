@@ -4,11 +4,12 @@ use mathlib.Core.Bool.{Bool, true, false, cond}
 use mathlib.Core.List.{List, [], ◌∷◌}
 use Prim.Native.Nat.{ℕ, ◌-◌, ◌≤◌, ◌<◌, min}
 use native.Mathlib.Omega.{arith}
-use borrow.Author.Tests.{lt-ltb, le-leb, eq-eqb, ne_eqb, eqb-false, ltb-true, ltb-false}
+use borrow.Author.Tests.{lt-ltb, le-ltb, le-leb, eq-eqb, ne_eqb, eqb-false, ltb-true, ltb-false}
 use lib.Dec.{eqb, ltb}
 use lib.IntN.{ℤ, pos}
 use lib.ListN.{length, take, get_or, set}
 use lib.Seq.{take_all}
+use Rattle.std.specs.Prelude.{Option, Some, None, Ok}
 use Rattle.seq.specs.List.{any}
 use Rattle.thread.specs.Answer.{truth}
 use Rattle.thread.specs.Code.{ok, einval, eagain, epipe, enomsg}
@@ -25,7 +26,7 @@ use Rattle.pipe.specs.Post.{Starts, Writes, WritesAll, Reads, ReadsAll, Resets, 
 use Rattle.pipe.specs.declared.Numbers.{Numbers}
 use Rattle.pipe.specs.declared.Condition.TheVariants.{Closed, Open, Resetting, OpenAndResetting}
 use Rattle.pipe.specs.declared.Condition.{Condition}
-use Rattle.pipe.specs.Told.{flags_of, Seen, writes_by, reads_by, write_by, read_by}
+use Rattle.pipe.specs.Told.{flags_of, Seen, verdict, short, writes_by, reads_by, write_by, read_by}
 use Rattle.pipe.proofs.Verdicts.{write_moves, write-all-fits, read-moves, read-all-fits}
 use Rattle.pipe.proofs.Headers.{Formed, is-formed, from-formed, new-flags, on-ring, on-ring-place}
 
@@ -195,6 +196,33 @@ stays_out : (o : Bool) (s n k : ℕ) → cond o (once s n) (never epipe) ≡ mov
 stays_out true s n k e = stays_put s n k e
 stays_out false s n k e = cc
 
+-- enough can move
+not-short : (a : Bool) (n m : ℕ) → 0 < m → (a ≡ true → n ≤ m) → short a n m ≡ false
+not-short true n m f g = rw (ne_eqb m 0 (λ e. omega arith), le-ltb m n (g refl))
+not-short false n m f g = rw (ne_eqb m 0 (λ e. omega arith))
+
+enough : (a : Bool) (n m : ℕ) → short a n m ≡ false → (0 < m) × (a ≡ true → n ≤ m)
+enough a n m e = go a (eqb m 0) (ltb m n) refl refl e
+  where
+    go : (a x y : Bool) → eqb m 0 ≡ x → ltb m n ≡ y → cond x true (cond a y false) ≡ false → (0 < m) × (a ≡ true → n ≤ m)
+    go a true y f g z = absurd (cc)
+    go a false true f g z = (omega (arith, eqb-false m 0 f), λ w. absurd (cc))
+    go a false false f g z = (omega (arith, eqb-false m 0 f), λ w. omega (arith, ltb-false m n g))
+
+-- by what the header's words alone say
+module _ (h b : List ℕ) (w : 4 ≤ length h) where
+  pub put-goes : (a : Bool) {r : ℤ} {h' b' : List ℕ} (l : List ℕ) → get_or h 3 0 ≡ 1 → get_or h 2 0 ≤ get_or h 0 0 → 0 < length l
+      → short a (length l) (get_or h 0 0 - get_or h 2 0) ≡ false → PutsN l h b r h' b' → Did layout (write_by a l) h b r h' b'
+  put-goes true l e f g s =
+      let y = enough true (length l) (get_or h 0 0 - get_or h 2 0) s in wrote-all h b w l e (omega (arith, y.0)) g (y.1 refl)
+  put-goes false l e f g s =
+      let y = enough false (length l) (get_or h 0 0 - get_or h 2 0) s in wrote h b w l e (omega (arith, y.0)) g
+
+  pub get-comes : (a : Bool) {r : ℤ} {h' o' : List ℕ} (o : List ℕ) → get_or h 3 0 < 2 → 0 < length o → short a (length o) (get_or h 2 0) ≡ false
+      → GetsN h b o r h' o' → Fills layout (read_by a (length o)) h b o r h' o'
+  get-comes true o e g s = let y = enough true (length o) (get_or h 2 0) s in took-all h b w o e g (y.1 refl)
+  get-comes false o e g s = let y = enough false (length o) (get_or h 2 0) s in took h b w o e y.0 g
+
 write_needs : (c : Condition) (u s n k : ℕ) → writes u s (is_open (flags_of c)) (is_resetting (flags_of c)) n ≡ move k
     → (flags_of c ≡ 1) × (0 < n) × (u < s) × (k ≡ min n (s - u))
 write_needs Closed u s n k e = absurd (cc)
@@ -227,34 +255,39 @@ module _ (h b : List ℕ) {p : Numbers} (s : Seen h b p) where
   abbrev good : Formed h b
   good = from-formed h b s.formed
 
-  pub put-again : (a : Bool) (l : List ℕ) → later ≡ writes_by a p (length l) → Did layout (write_by a l) h b eagain h b
-  put-again true l e = refuses layout (write_all l) h b (written_all h b good l (sym (rw (s.used, s.size, s.flags) at e)))
-  put-again false l e = refuses layout (write l) h b (written h b good l (sym (rw (s.used, s.size, s.flags) at e)))
-
-  pub put-moves : (a : Bool) (l : List ℕ) (k : ℕ) → move k ≡ writes_by a p (length l) → {r : ℤ} {h' b' : List ℕ} → PutsN l h b r h' b' → Did layout (write_by a l) h b r h' b'
-  put-moves true l k e =
+  -- a write that moves nothing now, as what the header's words say is against it
+  pub put-again : (a : Bool) (l : List ℕ) (x : Option ℕ) → verdict (Ok x) ≡ writes_by a p (length l)
+      → (get_or h 3 0 ≡ 1 → get_or h 2 0 ≤ get_or h 0 0 → 0 < length l → short a (length l) (get_or h 0 0 - get_or h 2 0) ≡ false → ⊥)
+      → Did layout (write_by a l) h b eagain h b
+  put-again true l None e f = refuses layout (write_all l) h b (written_all h b good l (sym (rw (s.used, s.size, s.flags) at e)))
+  put-again false l None e f = refuses layout (write l) h b (written h b good l (sym (rw (s.used, s.size, s.flags) at e)))
+  put-again true l (Some k) e f =
       let n = length l in
       let x = wholly_moves n k (once p.size n) (writes p.used p.size (is_open (flags_of p.condition)) (is_resetting (flags_of p.condition)) n) (stays_put p.size n k) (sym e) in
       let y = write_needs p.condition p.used p.size n k x.0 in
-      wrote-all h b s.words l (sym s.flags ∙ y.0) (omega (arith, s, y)) y.1 (omega (arith, s, x.1, y))
-  put-moves false l k e =
+      absurd (f (sym s.flags ∙ y.0) (omega (arith, s, y)) y.1 (not-short true n (get_or h 0 0 - get_or h 2 0) (omega (arith, s, y)) (λ z. omega (arith, s, x.1, y))))
+  put-again false l (Some k) e f =
       let y = write_needs p.condition p.used p.size (length l) k (sym e) in
-      wrote h b s.words l (sym s.flags ∙ y.0) (omega (arith, s, y)) y.1
+      absurd (f (sym s.flags ∙ y.0) (omega (arith, s, y)) y.1 (not-short false (length l) (get_or h 0 0 - get_or h 2 0) (omega (arith, s, y)) (λ z. cc)))
 
   pub get-refused : (a : Bool) (o : List ℕ) {c : ℤ} → never c ≡ reads_by a p (length o) → Fills layout (read_by a (length o)) h b o c h o
   get-refused true o {c} e = refuses-place layout (read_all (length o)) h b (gone-all h b good (length o) (never c) (sym (rw (s.used, s.size, s.flags) at e))) o
   get-refused false o {c} e = refuses-place layout (read (length o)) h b (gone h b good (length o) (sym (rw (s.used, s.flags) at e))) o
 
-  pub get-moves : (a : Bool) (o : List ℕ) (k : ℕ) → move k ≡ reads_by a p (length o) → {r : ℤ} {h' o' : List ℕ} → GetsN h b o r h' o' → Fills layout (read_by a (length o)) h b o r h' o'
-  get-moves true o k e =
+  pub get-again : (a : Bool) (o : List ℕ) (x : Option ℕ) → verdict (Ok x) ≡ reads_by a p (length o)
+      → (get_or h 3 0 < 2 → 0 < length o → short a (length o) (get_or h 2 0) ≡ false → ⊥) → Fills layout (read_by a (length o)) h b o eagain h o
+  get-again true o None e f =
+      refuses-place layout (read_all (length o)) h b (gone-all h b good (length o) later (sym (rw (s.used, s.size, s.flags) at e))) o
+  get-again false o None e f = refuses-place layout (read (length o)) h b (gone h b good (length o) (sym (rw (s.used, s.flags) at e))) o
+  get-again true o (Some k) e f =
       let n = length o in
       let x = wholly_moves n k (cond (is_open (flags_of p.condition)) (once p.size n) (never epipe)) (reads p.used (is_open (flags_of p.condition)) (is_resetting (flags_of p.condition)) n)
       (stays_out (is_open (flags_of p.condition)) p.size n k) (sym e) in
       let y = read_needs p.condition p.used n k x.0 in
-      took-all h b s.words o (omega (arith, s, y)) y.1 (omega (arith, s, x.1, y))
-  get-moves false o k e =
+      absurd (f (omega (arith, s, y)) y.1 (not-short true n (get_or h 2 0) (omega (arith, s, y)) (λ z. omega (arith, s, x.1, y))))
+  get-again false o (Some k) e f =
       let y = read_needs p.condition p.used (length o) k (sym e) in
-      took h b s.words o (omega (arith, s, y)) (omega (arith, s, y)) y.1
+      absurd (f (omega (arith, s, y)) y.1 (not-short false (length o) (get_or h 2 0) (omega (arith, s, y)) (λ z. cc)))
 
 module _ (h b : List ℕ) (n : ℕ) where
   pub made : 4 ≤ length h → 0 < n → n ≤ length b → Starts n h b ok (set (set (set (set h 0 n) 1 0) 2 0) 3 1)

@@ -2,7 +2,12 @@
 -- are the same, and so is every word and every byte.
 use Rattle.std.specs.Prelude.{Bool, List, ℕ, ℤ}
 use Rattle.seq.specs.Only.{Only}
+use Rattle.thread.specs.Answer.{TellsByTwo}
+use Rattle.pipe.specs.declared.WriteDecision.{WriteDecision}
+use Rattle.pipe.specs.declared.ReadDecision.{ReadDecision}
+use Rattle.pipe.specs.declared.DecideResult.{DecideResult}
 use Rattle.pipe.specs.Post.{Starts, Writes, WritesAll, Reads, ReadsAll, Resets, Closes, ClearsReset, GetsSpace, GetsData, GetsSize, SaysEmpty, SaysFull, SaysOpen, SaysResetting, WriteDecided, WriteAllDecided, ReadDecided, ReadAllDecided}
+use Rattle.pipe.specs.Told.{write_told, read_told, actual_told, used_told}
 
 pub record Determined : Type 0 where
   pub init : (n : ℕ) (h b : List ℕ) → Only (λ ((r, h') : ℤ × List ℕ). Starts n h b r h')
@@ -26,3 +31,5 @@ pub record Determined : Type 0 where
   pub read_decide : (used n flags len : ℕ) (writer : Bool) (a u : ℕ) → Only (λ ((r, a', u') : ℤ × ℕ × ℕ). ReadDecided used n flags len writer a u r a' u')
   pub read_all_decide : (used n flags len : ℕ) (writer : Bool) (a u : ℕ)
       → Only (λ ((r, a', u') : ℤ × ℕ × ℕ). ReadAllDecided used n flags len writer a u r a' u')
+  pub write_decide_answer : TellsByTwo {T = DecideResult WriteDecision} write_told actual_told used_told
+  pub read_decide_answer : TellsByTwo {T = DecideResult ReadDecision} read_told actual_told used_told

@@ -1,6 +1,6 @@
 -- What the types of src stand for: a condition for its flags, an answer for a verdict, a decision for its number.
-use Rattle.std.specs.Prelude.{◌≡◌, Bool, true, false, cond, List, ℕ, ◌<◌, ◌≤◌, min, eqb, ltb, ℤ, length, get_or, Option, Some, None, Result, Ok, Err}
-use Rattle.thread.specs.Code.{code}
+use Rattle.std.specs.Prelude.{◌≡◌, Bool, true, false, cond, List, ℕ, ◌<◌, ◌≤◌, min, eqb, ltb, ℤ, pos, length, get_or, Option, Some, None, Result, Ok, Err}
+use Rattle.thread.specs.Code.{code, einval}
 use Rattle.thread.specs.declared.Errno.{Errno}
 use Rattle.thread.specs.declared.Errno.TheVariants.{EINVAL}
 use Rattle.store.specs.Store.{Reply}
@@ -14,6 +14,11 @@ use Rattle.pipe.specs.declared.ReadDecision.TheVariants.{ReadOk, WakeWriter, Rea
 use Rattle.pipe.specs.declared.DecideResult.{DecideResult}
 use Rattle.pipe.specs.Pipe.{Pipe, Verdict, never, later, move, wholly, once, writes, writes_all, reads, reads_all, write, write_all, read, read_all}
 use Rattle.pipe.specs.Post.{formed, goes, wakes, pends, proper, is_open, is_resetting, Moves, write_decision, write_all_decision, read_decision, read_all_decision}
+
+-- how many bytes a ring took or gave; -22, if it is malformed
+abbrev pub how_many : Option ℕ → ℤ
+how_many (Some k) = pos k
+how_many None = einval
 
 abbrev pub flags_of : Condition → ℕ
 flags_of Closed = 0

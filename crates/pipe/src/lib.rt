@@ -5,8 +5,9 @@
 ghost use Rattle.std.specs.Prelude.{◌≡◌, ◌≤◌, ℕ, pos, length};
 ghost use Rattle.thread.specs.Answer.{told, kept, done, truth};
 ghost use Rattle.store.specs.Store.{Did, Fills};
+ghost use Rattle.ring_buf.specs.Post.{PutsN, GetsN};
 ghost use Rattle.pipe.specs.Post.{Starts, Writes, WritesAll, Reads, ReadsAll, Resets, Closes, ClearsReset, GetsSpace, GetsData, GetsSize, SaysEmpty, SaysFull, SaysOpen, SaysResetting, WriteDecided, WriteAllDecided, ReadDecided, ReadAllDecided, Decided, is_open, is_resetting, layout};
-ghost use Rattle.pipe.specs.Told.{Flagged, Checked, Looked, flags_of, verdict, short, moves_by, writes_by, reads_by, write_by, read_by, write_decision_by, read_decision_by, write_told, read_told, actual_told, used_told, write_number, read_number};
+ghost use Rattle.pipe.specs.Told.{Flagged, Checked, Looked, flags_of, how_many, verdict, short, moves_by, writes_by, reads_by, write_by, read_by, write_decision_by, read_decision_by, write_told, read_told, actual_told, used_told, write_number, read_number};
 
 use Condition::{Closed, Open, OpenAndResetting, Resetting};
 use thread::Coded;
@@ -63,14 +64,13 @@ impl Numbers {
     fn new(used: u32, size: u32, flags: u32) -> Result<Numbers, Errno>
         ensures { Checked used «size» flags result }
     {
-        let condition = Condition::try_from(flags)?;
         if size == 0 || size < used {
             return Err(EINVAL);
         }
         Ok(Numbers {
             size,
             used,
-            condition,
+            condition: Condition::try_from(flags)?,
         })
     }
 
@@ -146,14 +146,42 @@ pub fn init(h: &mut [u32], b: &[u8], size: u32) -> Result<(), Errno>
     Ok(())
 }
 
-// Bytes go in: as many as there is room for, or ALL or none.
+// How many went into the ring; none, if its header or the buffer is not as it should be. It is not inlined, so that who refuses saves no
+// register for it, and it answers in registers: a Result with a number would cross in memory.
+#[inline(never)]
+fn store(h: &mut [u32], b: &mut [u8], src: &[u8]) -> Option<u32>
+    ensures { PutsN src.now h.old b.old (how_many result) h.new b.new }
+{
+    ring_buf::put_n(h, b, src).ok()
+}
+
+// How many came out of it, alike.
+#[inline(never)]
+fn load(h: &mut [u32], b: &[u8], out: &mut [u8]) -> Option<u32>
+    ensures { GetsN h.old b.now out.old (how_many result) h.new out.new }
+{
+    ring_buf::get_n(h, b, out).ok()
+}
+
+// Bytes go in: as many as there is room for, or ALL or none. The ring tests its own words: to test them here, too, takes a quarter more time.
 fn put<const ALL: bool>(h: &mut [u32], b: &mut [u8], src: &[u8]) -> Result<u32, Errno>
     ensures { Did layout (write_by ALL src.now) h.old b.old (told pos result) h.new b.new }
 {
-    match Numbers::at(h, b)?.writes::<ALL>(src.len())? {
-        None => Err(EAGAIN),
-        Some(_) => ring_buf::put_n(h, b, src),
+    let [size, _, used, flags, ..] = *h else {
+        return Err(EINVAL);
+    };
+    if flags == Open as u32
+        && used <= size
+        && !src.is_empty()
+        && !short::<ALL>(src.len(), size - used)
+    {
+        let Some(n) = store(h, b, src) else {
+            return Err(EINVAL);
+        };
+        return Ok(n);
     }
+    Numbers::at(h, b)?.writes::<ALL>(src.len())?;
+    Err(EAGAIN)
 }
 
 // How many bytes went in, the first of src. ECANCELED: resetting; EPIPE: closed; ENOMSG: src is empty; EAGAIN: full.
@@ -174,10 +202,17 @@ pub fn write_all(h: &mut [u32], b: &mut [u8], src: &[u8]) -> Result<u32, Errno>
 fn get<const ALL: bool>(h: &mut [u32], b: &[u8], out: &mut [u8]) -> Result<u32, Errno>
     ensures { Fills layout (read_by ALL (length out.old)) h.old b.now out.old (told pos result) h.new out.new }
 {
-    match Numbers::at(h, b)?.reads::<ALL>(out.len())? {
-        None => Err(EAGAIN),
-        Some(_) => ring_buf::get_n(h, b, out),
+    let [_, _, used, flags, ..] = *h else {
+        return Err(EINVAL);
+    };
+    if flags < Resetting as u32 && !out.is_empty() && !short::<ALL>(out.len(), used) {
+        let Some(n) = load(h, b, out) else {
+            return Err(EINVAL);
+        };
+        return Ok(n);
     }
+    Numbers::at(h, b)?.reads::<ALL>(out.len())?;
+    Err(EAGAIN)
 }
 
 // How many bytes came out, to the first of out. ECANCELED: resetting; ENOMSG: out is empty; if nothing is held EPIPE: closed, EAGAIN: open.

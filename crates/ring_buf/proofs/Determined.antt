@@ -66,4 +66,5 @@ determined =
       finish_decide = λ head tail size. said _;
       space_get_decide = λ putHead getTail size. said _;
       size_get_decide = λ putTail getHead. said _;
+      claim_answer = λ x y s o i. record { claim_size = s i; buffer_offset = o i };
     }

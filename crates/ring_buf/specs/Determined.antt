@@ -1,8 +1,9 @@
 -- No contract of a public function leaves anything open: of two outcomes from the same memory and the same numbers that both meet it, the answers
 -- are the same, and so is every word and every byte.
-use Rattle.std.specs.Prelude.{Bool, List, ℕ, ℤ}
+use Rattle.std.specs.Prelude.{◌≡◌, Bool, List, ℕ, ℤ}
 use Rattle.seq.specs.Only.{Only}
 use Rattle.ring_buf.specs.Post.{Places, Copies, SaysFormed, Starts, Puts, Gets, PutsN, GetsN, PeeksAt, Resets, GetsSize, GetsSpace, GetsCapacity, SaysEmpty, SaysFull, GetsHead, GetsTail, ClaimDecided, FinishDecided, SpaceGetDecided, SizeGetDecided}
+use Rattle.ring_buf.specs.declared.ClaimDecision.{ClaimDecision}
 
 pub record Determined : Type 0 where
   pub place : (x n : ℕ) → Only (λ (r : ℕ). Places x n r)
@@ -26,3 +27,5 @@ pub record Determined : Type 0 where
   pub finish_decide : (head tail size : ℕ) → Only (λ (r : Bool). FinishDecided head tail size r)
   pub space_get_decide : (putHead getTail size : ℕ) → Only (λ (r : ℕ). SpaceGetDecided putHead getTail size r)
   pub size_get_decide : (putTail getHead : ℕ) → Only (λ (r : ℕ). SizeGetDecided putTail getHead r)
+  -- the two words tell which answer it is
+  pub claim_answer : (x y : ClaimDecision) → x.claim_size ≡ y.claim_size → x.buffer_offset ≡ y.buffer_offset → x ≡ y

@@ -2,7 +2,11 @@
 -- are the same, and so is every word.
 use Rattle.std.specs.Prelude.{Bool, List, ℕ, ℤ}
 use Rattle.seq.specs.Only.{Only}
+use Rattle.thread.specs.Answer.{Tells, TellsBy}
 use Rattle.sem.specs.Post.{Starts, Gives, TriesTake, Takes, Resets, GetsCount, GetsLimit, CountsWaiters, Audits, GiveDecided, TakeDecided}
+use Rattle.sem.specs.Sem.{decision, gave, handed}
+use Rattle.sem.specs.declared.GiveDecision.{GiveDecision}
+use Rattle.sem.specs.declared.GiveResult.{GiveResult}
 
 pub record Determined : Type 0 where
   pub give_decide : (count limit : ℕ) (waits : Bool) → Only (λ (r : ℤ). GiveDecided count limit waits r)
@@ -16,3 +20,6 @@ pub record Determined : Type 0 where
   pub limit_get : (h e : List ℕ) → Only (λ (r : ℤ). GetsLimit h e r)
   pub num_waiters : (h e : List ℕ) → Only (λ (r : ℤ). CountsWaiters h e r)
   pub audit : (h e : List ℕ) → Only (λ (r : Bool). Audits h e r)
+  -- the number and the words tell which answer it is
+  pub give_decide_answer : Tells {T = GiveDecision} decision
+  pub give_answer : TellsBy {T = GiveResult} gave handed

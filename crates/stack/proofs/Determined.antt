@@ -1,18 +1,28 @@
 -- The stack's contracts leave nothing open. Assumes nothing.
-use mathlib.Core.Path.{◌≡◌, sym, ap, ◌∙◌}
+use mathlib.Core.Path.{◌≡◌, sym, ap, ◌∙◌, refl}
 use mathlib.Core.List.{List, [], ◌∷◌, ◌++◌}
+use mathlib.Core.Bool.{cond}
 use Prim.Native.Nat.{ℕ, ◌+◌, ◌-◌, ◌≤◌}
 use native.Mathlib.Omega.{arith}
 use lib.ListN.{length, get_or, take}
 use lib.Seq.{take-add, get_or-take, ext_get_or, length-take-le}
+use lib.Dec.{eqb}
+use lib.IntN.{ℤ, pos}
+use lib.Signed.{mag}
 use Rattle.seq.specs.Only.{Alike}
 use Rattle.seq.proofs.Back.{back-length}
 use Rattle.seq.proofs.Only.{said, back_alike}
+use Rattle.thread.proofs.Determined.{tells-by}
 use Rattle.store.specs.Determined.{Faithful}
 use Rattle.store.proofs.Determined.{did_only, hands_only, starts_only, decided-only}
 use Rattle.stack.specs.Stack.{Stack, pops, push_decide, push, pop, fresh, may}
 use Rattle.stack.specs.Post.{stack_of, place}
 use Rattle.stack.specs.Determined.{Determined}
+use Rattle.stack.specs.Answer.{push_number, push_count, pop_number, pop_count}
+use Rattle.stack.specs.declared.PushDecision.{PushDecision}
+use Rattle.stack.specs.declared.PushDecision.TheVariants as to_push
+use Rattle.stack.specs.declared.PopDecision.{PopDecision}
+use Rattle.stack.specs.declared.PopDecision.TheVariants as to_pop
 use Rattle.stack.proofs.Memory.{is-sound}
 
 first : (n : ℕ) (w w' : List ℕ) → n ≤ length w → n ≤ length w' → Alike n w w' → take n w ≡ take n w'
@@ -39,6 +49,31 @@ faithful =
           let s = is-sound h w f in words (get_or h 0 0) (get_or h 1 0) w w' s.within s.housed (is-sound h w' f').housed e;
     }
 
+-- which decision has a number and a count
+a_push : ℤ → ℕ → PushDecision
+a_push z n = cond (eqb (mag z) 0) (to_push.Store n) to_push.WakeWaiter
+
+a_push-told : (count : ℕ) (d : PushDecision) → a_push (push_number d) (push_count count d 0) ≡ d
+unfolding a_push
+a_push-told count (to_push.Store n) = refl
+a_push-told count to_push.WakeWaiter = refl
+
+push-number : (d : PushDecision) → push_number d ≡ pos (mag (push_number d))
+push-number (to_push.Store n) = refl
+push-number to_push.WakeWaiter = refl
+
+a_pop : ℤ → ℕ → PopDecision
+a_pop z n = cond (eqb (mag z) 0) (to_pop.Pop n) to_pop.Pend
+
+a_pop-told : (count : ℕ) (d : PopDecision) → a_pop (pop_number d) (pop_count count d 0) ≡ d
+unfolding a_pop
+a_pop-told count (to_pop.Pop n) = refl
+a_pop-told count to_pop.Pend = refl
+
+pop-number : (d : PopDecision) → pop_number d ≡ pos (mag (pop_number d))
+pop-number (to_pop.Pop n) = refl
+pop-number to_pop.Pend = refl
+
 pub determined : Determined
 determined =
     record {
@@ -52,4 +87,8 @@ determined =
       capacity = λ h w. said _;
       is_full = λ h w. said _;
       is_empty = λ h w. said _;
+      push_answer = λ count.
+          tells-by push_number push-number (push_count count) (λ x y e k. sym (a_push-told count x) ∙ (λ i. a_push (e i) (k 0 i)) ∙ a_push-told count y);
+      pop_answer = λ count.
+          tells-by pop_number pop-number (pop_count count) (λ x y e k. sym (a_pop-told count x) ∙ (λ i. a_pop (e i) (k 0 i)) ∙ a_pop-told count y);
     }

@@ -1,10 +1,16 @@
 -- The timeout's contracts leave nothing open. Assumes nothing.
-use mathlib.Core.Path.{refl}
+use mathlib.Core.Path.{refl, ◌≡◌, sym, ◌∙◌}
 use mathlib.Core.List.{[], ◌∷◌}
+use mathlib.Core.Bool.{Bool, true, false}
+use lib.Dec.{eqb}
+use lib.IntN.{pos}
+use lib.Signed.{mag}
 use Rattle.seq.proofs.Only.{said, back_alike}
+use Rattle.thread.specs.Answer.{truth}
+use Rattle.thread.proofs.Determined.{tells-by}
 use Rattle.store.specs.Determined.{Faithful}
 use Rattle.store.proofs.Determined.{reads_only, hands_only, tells_only, starts_only, decided-only}
-use Rattle.timeout.specs.Timeout.{add_decide, announce_decide, add, add_absolute, add_forever, add_no_wait, abort, announce, remaining, expires, clock_now, timepoint_calc, timepoint_timeout, fresh, may}
+use Rattle.timeout.specs.Timeout.{add_decide, announce_decide, add, add_absolute, add_forever, add_no_wait, abort, announce, remaining, expires, clock_now, timepoint_calc, timepoint_timeout, fresh, may, decided, its_tick}
 use Rattle.timeout.specs.Post.{place}
 use Rattle.timeout.specs.Determined.{Determined}
 
@@ -15,6 +21,15 @@ faithful =
       header = λ h b h' b' f f' e. back_alike 3 h h' (λ i. (e i).clock ∷ (e i).active ∷ (e i).deadline ∷ []);
       buffer = λ h b b' f f' e. refl;
     }
+
+-- the number of a test is that of one answer
+test-told : (b : Bool) → eqb (mag (truth b)) 1 ≡ b
+test-told true = refl
+test-told false = refl
+
+test-number : (b : Bool) → truth b ≡ pos (mag (truth b))
+test-number true = refl
+test-number false = refl
 
 pub determined : Determined
 determined =
@@ -37,4 +52,8 @@ determined =
       now = λ h. tells_only faithful h [] clock_now;
       timepoint_calc = λ duration h. tells_only faithful h [] (timepoint_calc duration);
       timepoint_timeout = λ timepoint h. tells_only faithful h [] (timepoint_timeout timepoint);
+      announce_answer =
+          tells-by decided (λ x. test-number x.fired) its_tick (λ x y e k.
+          let d : x.fired ≡ y.fired = sym (test-told x.fired) ∙ (λ i. eqb (mag (e i)) 1) ∙ test-told y.fired in
+          λ i. record { new_tick = k 0 i; fired = d i });
     }

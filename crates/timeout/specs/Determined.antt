@@ -2,7 +2,10 @@
 -- are the same, and so is every word.
 use Rattle.std.specs.Prelude.{Bool, List, ℕ, ℤ}
 use Rattle.seq.specs.Only.{Only}
+use Rattle.thread.specs.Answer.{TellsBy}
 use Rattle.timeout.specs.Post.{AddDecided, AbortDecided, AnnounceDecided, Starts, Adds, AddsAbsolute, AddsForever, AddsNoWait, Aborts, Announces, GetsRemaining, GetsExpiry, SaysActive, SaysForever, SaysNoWait, GetsNow, CalcsTimepoint, GetsTimepointTimeout}
+use Rattle.timeout.specs.Timeout.{decided, its_tick}
+use Rattle.timeout.specs.declared.AnnounceDecideResult.{AnnounceDecideResult}
 
 pub record Determined : Type 0 where
   pub add_decide : (clock duration n : ℕ) → Only (λ ((r, n') : ℤ × ℕ). AddDecided clock duration n r n')
@@ -23,3 +26,5 @@ pub record Determined : Type 0 where
   pub now : (h : List ℕ) (n : ℕ) → Only (λ ((r, n') : ℤ × ℕ). GetsNow h n r n')
   pub timepoint_calc : (duration : ℕ) (h : List ℕ) (n : ℕ) → Only (λ ((r, n') : ℤ × ℕ). CalcsTimepoint duration h n r n')
   pub timepoint_timeout : (timepoint : ℕ) (h : List ℕ) (n : ℕ) → Only (λ ((r, n') : ℤ × ℕ). GetsTimepointTimeout timepoint h n r n')
+  -- the number and the words tell which answer it is
+  pub announce_answer : TellsBy {T = AnnounceDecideResult} decided its_tick

@@ -2,7 +2,10 @@
 -- are the same, and so is every word.
 use Rattle.std.specs.Prelude.{List, ℕ, ℤ}
 use Rattle.seq.specs.Only.{Only}
+use Rattle.thread.specs.Answer.{TellsBy}
 use Rattle.timer.specs.Post.{ExpireDecided, Starts, StartsRunning, Stops, Expires, GetsStatus, PeeksStatus, GetsPeriod, SaysRunning}
+use Rattle.timer.specs.Timer.{decided, its_status}
+use Rattle.timer.specs.declared.ExpireDecideResult.{ExpireDecideResult}
 
 pub record Determined : Type 0 where
   pub expire_decide : (status period n : ℕ) → Only (λ ((r, n') : ℤ × ℕ). ExpireDecided status period n r n')
@@ -14,3 +17,5 @@ pub record Determined : Type 0 where
   pub status_peek : (h : List ℕ) → Only (λ (r : ℤ). PeeksStatus h r)
   pub period_get : (h : List ℕ) → Only (λ (r : ℤ). GetsPeriod h r)
   pub is_running : (h : List ℕ) → Only (λ (r : ℤ). SaysRunning h r)
+  -- the number and the words tell which answer it is
+  pub expire_answer : TellsBy {T = ExpireDecideResult} decided its_status

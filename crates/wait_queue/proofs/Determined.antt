@@ -1,21 +1,25 @@
 -- The queue that an operation leaves, and the words behind it, are all words that there are. So a contract leaves nothing open. Assumes nothing.
-use mathlib.Core.Path.{◌≡◌, sym, ap, ◌∙◌}
+use mathlib.Core.Path.{◌≡◌, refl, sym, ap, ◌∙◌}
 use mathlib.Core.Bool.{Bool, true, false, cond}
 use mathlib.Core.List.{List, [], ◌∷◌}
 use Prim.Native.Nat.{ℕ}
 use native.Mathlib.Omega.{arith}
 use lib.Dec.{leb}
-use lib.IntN.{ℤ}
+use lib.IntN.{ℤ, pos}
 use lib.ListN.{length, get_or, take}
+use lib.Signed.{mag}
 use Rattle.seq.specs.Only.{Only}
 use Rattle.seq.proofs.Back.{back-length}
 use Rattle.seq.proofs.Order.{clash}
 use Rattle.seq.proofs.Only.{said, exactly, back_alike, take_alike}
+use Rattle.thread.proofs.Determined.{tells}
 use Rattle.store.specs.Store.{fitting}
 use Rattle.store.specs.Determined.{Faithful}
 use Rattle.store.proofs.Determined.{did_only, fills_only, hands_only}
 use Rattle.wait_queue.specs.Queue.{entry, waiting, roomy}
-use Rattle.wait_queue.specs.Turn.{wait_queue, pend, unpend_first, unpend_all, remove, parked}
+use Rattle.wait_queue.specs.declared.Outcome.{Outcome}
+use Rattle.wait_queue.specs.declared.Outcome.TheVariants.{Acquired, Blocked}
+use Rattle.wait_queue.specs.Turn.{wait_queue, outcome, pend, unpend_first, unpend_all, remove, parked}
 use Rattle.wait_queue.specs.Post.{Audits}
 use Rattle.wait_queue.specs.Determined.{Determined}
 use Rattle.wait_queue.proofs.Memory.{is-roomy}
@@ -51,11 +55,23 @@ word C o x y m k = let q = o (x.0, x.1 ∷ [], x.2) (y.0, y.1 ∷ [], y.2) m k i
 audit-only : (n : ℕ) (e : List ℕ) → Only (λ (r : Bool). Audits n e r)
 audit-only n e x y m k = exactly x y m.sound m.complete k.sound k.complete
 
+-- each outcome has a number of its own
+outcome-number : (x : Outcome) → outcome x ≡ pos (mag (outcome x))
+outcome-number Acquired = refl
+outcome-number Blocked = refl
+
+outcome-once : (x y : Outcome) → outcome x ≡ outcome y → x ≡ y
+outcome-once Acquired Acquired e = refl
+outcome-once Acquired Blocked e = absurd (let y : ◌≡◌ {A = ℕ} 0 1 = ap mag e in omega arith)
+outcome-once Blocked Acquired e = absurd (let y : ◌≡◌ {A = ℕ} 1 0 = ap mag e in omega arith)
+outcome-once Blocked Blocked e = refl
+
 pub determined : Determined
 determined =
     record {
       over = λ n. said _;
       fits = λ n e. said _;
+      caller = λ p st. said _;
       new = said _;
       len = λ n e. said _;
       is_empty = λ n e. said _;
@@ -66,4 +82,5 @@ determined =
       unpend_all = λ z n e out. word _ (fills_only faithful (n ∷ []) e (fitting (length out) (unpend_all z)) out);
       remove = λ i n e. word _ (did_only faithful (n ∷ []) e (remove i));
       audit = audit-only;
+      outcome_answer = tells outcome outcome-number outcome-once;
     }
